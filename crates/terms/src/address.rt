@@ -7,12 +7,19 @@ ghost use lib.Dec.{ltb};
 ghost use lib.ListN.{getD};
 ghost use Rattle.std.specs.declared.option.Option.the-variants.{Some, None};
 ghost use Rattle.std.specs.Options.{mapped};
-ghost use Rattle.terms.specs.Limits.{addresses, page-size};
+ghost use Rattle.terms.specs.Limits.{addresses, cpu-pages, page-size};
 
 #[derive(Clone, Copy, PartialEq, Eq, Debug)]
 pub struct CpuAddress {
     bits: u32,
     ghost fits: { bits < addresses },
+}
+
+// One of the 64 pages of the processor's addresses.
+#[derive(Clone, Copy, PartialEq, Eq, Debug)]
+pub struct CpuPage {
+    number: u8,
+    ghost fits: { number < cpu-pages },
 }
 
 const ADDRESSES: u32 = 0x10_0000;
@@ -35,11 +42,13 @@ impl CpuAddress {
         self.bits
     }
 
-    // Which of the 64 pages the address lies in.
-    pub fn page(self) -> usize
-        ensures { λ r. ⌜ r ≡ self .bits / page-size ⌝ }
+    // The page that the address lies in.
+    pub fn page(self) -> CpuPage
+        ensures { λ r. ⌜ r .number ≡ self .bits / page-size ⌝ }
     {
-        (self.bits / super::PAGE_SIZE) as usize
+        CpuPage {
+            number: (self.bits / super::PAGE_SIZE) as u8,
+        }
     }
 
     // How far into its page the address lies.
@@ -47,5 +56,26 @@ impl CpuAddress {
         ensures { λ r. ⌜ r ≡ self .bits % page-size ⌝ }
     {
         self.bits % super::PAGE_SIZE
+    }
+}
+
+impl CpuPage {
+    // The page of that number, if there is one.
+    pub fn new(number: u32) -> Option<CpuPage>
+        ensures { λ r. ⌜ mapped (λ p. p .number) r ≡ cond (ltb number cpu-pages) (Some number) None ⌝ }
+    {
+        if number < ADDRESSES / super::PAGE_SIZE {
+            Some(CpuPage {
+                number: number as u8,
+            })
+        } else {
+            None
+        }
+    }
+
+    pub fn number(self) -> u8
+        ensures { λ r. ⌜ r ≡ self .number ⌝ }
+    {
+        self.number
     }
 }

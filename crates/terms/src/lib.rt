@@ -4,6 +4,7 @@ mod place;
 mod refusal;
 
 pub use address::CpuAddress;
+pub use address::CpuPage;
 pub use place::PAGE_SIZE;
 pub use place::PLACES;
 pub use place::Place;

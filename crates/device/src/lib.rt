@@ -1,0 +1,3 @@
+mod interface;
+
+pub use interface::Device;

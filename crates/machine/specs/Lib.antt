@@ -1,4 +1,7 @@
 pub mod Lines
 pub mod Kinds
 pub mod Decode
+pub mod Machine
+pub mod Access
+pub mod Step
 pub mod View

@@ -3,11 +3,16 @@ use mathlib.Core.Bool.{Bool, cond}
 use Prim.Native.Nat.{ℕ}
 use Rattle.std.specs.declared.result.Result.{Result}
 use Rattle.std.specs.declared.result.Result.the-variants.{Ok, Err}
+use Rattle.device.specs.Meaning.{Meaning}
+use Rattle.mapper.specs.View.{words}
 use Rattle.power.specs.Registers.{index}
+use Rattle.power.specs.View.{view as power-view}
 use Rattle.power.specs.declared.event.Event.{Event}
 use Rattle.power.specs.declared.event.Event.the-variants as event
 use Rattle.machine.specs.Lines.{Line, kind-field, a-field, v-field}
 use Rattle.machine.specs.Decode.{Frame}
+use Rattle.machine.specs.Machine.{Machine}
+use Rattle.machine.specs.declared.engine.Engine.{Engine}
 use Rattle.machine.specs.declared.decode.Fields.{Fields}
 use Rattle.machine.specs.declared.kind.Kind.{Kind}
 use Rattle.machine.specs.declared.kind.Kind.the-variants as kind
@@ -19,6 +24,17 @@ frame k a v = record { kind = k; a = a; v = v }
 
 abbrev pub level : Bool → ℕ
 level b = cond b 1 0
+
+-- the machine that an engine stands for, by what its four devices mean
+abbrev pub view : {R O CA CB : Type 0} → (R → Meaning) → (O → Meaning) → (CA → Meaning) → (CB → Meaning) → Engine R O CA CB → Machine
+view ram rom card-a card-b e = record {
+  power = power-view (e .power);
+  words = words (e .pages);
+  ram = ram (e .ram);
+  rom = rom (e .rom);
+  card-a = card-a (e .«card_a»);
+  card-b = card-b (e .«card_b»);
+}
 
 -- the frame that a command was
 abbrev pub frame-of : Command → Frame

@@ -138,9 +138,16 @@ with-ac v u = record {
   ac = v;
 }
 
+abbrev pub ticked : Power → Power
+ticked u = counted (sampled u)
+
+-- activity from a source; ACTMASK has a bit for each that is ignored
+abbrev pub source-given : ℕ → Power → Power
+source-given source u = cond (bit source (u .table 0x07)) u (active (u .state) u)
+
 abbrev pub happened : Event → Power → Power
-happened event.Tick u = counted (sampled u)
-happened (event.Activity source) u = cond (bit (source .number) (u .table 0x07)) u (active (u .state) u)
+happened event.Tick u = ticked u
+happened (event.Activity source) u = source-given (source .number) u
 happened (event.Ext v) u = ext-given v u
 happened (event.Ring v) u = ring-given v u
 happened event.Alarm u = alarmed u

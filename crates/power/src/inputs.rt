@@ -2,7 +2,7 @@
 ghost use mathlib.Core.Path.{_≡_};
 ghost use mathlib.Core.Bool.{false, not, _&&_};
 ghost use Rattle.power.specs.States.{asleep};
-ghost use Rattle.power.specs.Inputs.{sampled, held, expired, counted, stirred, active, pressed, ext-given, ring-given, battery-given, happened};
+ghost use Rattle.power.specs.Inputs.{sampled, held, expired, counted, stirred, active, pressed, ext-given, ring-given, battery-given, ticked, happened};
 ghost use Rattle.power.specs.Causes.{position};
 ghost use Rattle.power.specs.View.{view};
 use super::Cause;
@@ -37,7 +37,7 @@ impl PowerUnit {
     }
 
     fn tick(&mut self)
-        ensures { λ _. ⌜ view (now (self .exit)) ≡ counted (sampled (view (now (self .entry)))) ⌝ }
+        ensures { λ _. ⌜ view (now (self .exit)) ≡ ticked (view (now (self .entry))) ⌝ }
     {
         self.sample_ext();
         self.count_down();

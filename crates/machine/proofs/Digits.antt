@@ -46,3 +46,12 @@ pub decoded-none : (l : Line) → None ≡ cond (is-frame l) (Some (fields-of l)
 unfolding decoded
 decoded-none l e =
     by-none (is-frame l) (fields-of l) (listed (kind-of (kind-field l)) (a-field l) (v-field l)) (Err refusal.NotAFrame) e
+
+-- what the cut tells of the line
+pub cut-some : (b : Bool) (f g : Fields) → Some f ≡ cond b (Some g) None → b ≡ true
+cut-some true f g e = refl
+cut-some false f g e = let z : _≡_ {A = ℕ} 0 1 = cc in absurd (omega arith)
+
+pub cut-none : (b : Bool) (g : Fields) → None ≡ cond b (Some g) None → b ≡ false
+cut-none true g e = let z : _≡_ {A = ℕ} 0 1 = cc in absurd (omega arith)
+cut-none false g e = refl

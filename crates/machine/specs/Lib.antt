@@ -5,3 +5,4 @@ pub mod Machine
 pub mod Access
 pub mod Step
 pub mod View
+pub mod Spelling

@@ -37,7 +37,7 @@ pub(crate) fn decode(line: &[u8]) -> Result<Command, Refusal>
     }
 }
 
-fn interpret(fields: Fields) -> Result<Command, Refusal>
+pub(crate) fn interpret(fields: Fields) -> Result<Command, Refusal>
     ensures { λ r. ⌜ ok-map frame-of r ≡ listed (kind-of (fields .kind)) (fields .a) (fields .v) ⌝ }
 {
     match Kind::new(fields.kind) {
@@ -47,7 +47,7 @@ fn interpret(fields: Fields) -> Result<Command, Refusal>
 }
 
 // The fields of a line of twelve digits.
-fn cut(line: &[u8]) -> Option<Fields>
+pub(crate) fn cut(line: &[u8]) -> Option<Fields>
     ensures { λ r. ⌜ r ≡ cond (is-frame (now (line .entry))) (Some (fields-of (now (line .entry)))) None ⌝ }
 {
     let [k1, k0, a5, a4, a3, a2, a1, a0, v3, v2, v1, v0] = line else {

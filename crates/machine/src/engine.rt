@@ -1,24 +1,28 @@
 // The engine over any four devices.
 ghost use mathlib.Core.Path.{_≡_};
 ghost use denote.Ref.{now};
-ghost use Rattle.terms.specs.Numbers.{passed-up};
 ghost use Rattle.device.specs.Meaning.{read-at, write-at, written};
 ghost use Rattle.mapper.specs.Translation.{socket-number};
 ghost use Rattle.power.specs.Power.{outputs};
 ghost use Rattle.power.specs.Registers.{bit};
-ghost use Rattle.machine.specs.Machine.{Machine, fresh, with-power, device, with-device, line, powered, fell, settled};
-ghost use Rattle.machine.specs.Access.{cpu-read, cpu-write, written-target, cpu-written};
+ghost use Rattle.machine.specs.Machine.{fresh, device, with-device, line, powered, fell, settled};
+ghost use Rattle.machine.specs.Access.{cpu-read, cpu-write, written-target};
 ghost use Rattle.mapper.specs.Translation.{leads};
-ghost use Rattle.machine.specs.Step.{outcome-as, done-as, outcome-of, done-by, outcome, step, answer};
+ghost use Rattle.machine.specs.Step.{outcome-as, done-as, outcome-of, done-by, outcome-if, step-if, answered, step, answer};
 ghost use Rattle.machine.specs.declared.kind.Kind.the-variants as kind;
 ghost use Rattle.std.specs.declared.result.Result.the-variants.{Ok};
 ghost use Rattle.mapper.specs.View.{words};
 ghost use Rattle.power.specs.View.{view as power-view};
 ghost use Rattle.power.specs.Registers.{index};
-ghost use Rattle.machine.specs.View.{view, frame-of};
+ghost use Rattle.machine.specs.View.{view, frame-of, ok-map};
+ghost use Rattle.machine.specs.Lines.{is-frame};
+ghost use mathlib.Core.Bool.{cond};
+ghost use Rattle.std.specs.declared.option.Option.the-variants.{Some, None};
 use super::Answer;
 use super::Command;
+use super::decode::cut;
 use super::decode::decode;
+use super::decode::interpret;
 use device::Device;
 use mapper::PageTable;
 use mapper::Socket;
@@ -61,7 +65,40 @@ impl<R: Device, O: Device, CA: Device, CB: Device> Engine<R, O, CA, CB> {
         ensures answer { λ r. ⌜ r ≡ answer (view (R·Device .meaning) (O·Device .meaning) (CA·Device .meaning) (CB·Device .meaning) (now (self .entry))) (now (line .entry)) ⌝ }
         ensures after { λ _. ⌜ view (R·Device .meaning) (O·Device .meaning) (CA·Device .meaning) (CB·Device .meaning) (now (self .exit)) ≡ step (view (R·Device .meaning) (O·Device .meaning) (CA·Device .meaning) (CB·Device .meaning) (now (self .entry))) (now (line .entry)) ⌝ }
     {
-        let outcome = self.take(line);
+        self.reply(decode(line))
+    }
+
+    // The same where the line is twelve digits, looked at once; any other line is left to `frame`, and nothing changes.
+    pub fn frame_of_digits(&mut self, line: &[u8]) -> Option<Answer>
+        ensures answer { λ r. ⌜ r ≡ cond (is-frame (now (line .entry))) (Some (answer (view (R·Device .meaning) (O·Device .meaning) (CA·Device .meaning) (CB·Device .meaning) (now (self .entry))) (now (line .entry)))) None ⌝ }
+        ensures after { λ _. ⌜ view (R·Device .meaning) (O·Device .meaning) (CA·Device .meaning) (CB·Device .meaning) (now (self .exit)) ≡ cond (is-frame (now (line .entry))) (step (view (R·Device .meaning) (O·Device .meaning) (CA·Device .meaning) (CB·Device .meaning) (now (self .entry))) (now (line .entry))) (view (R·Device .meaning) (O·Device .meaning) (CA·Device .meaning) (CB·Device .meaning) (now (self .entry))) ⌝ }
+    {
+        match cut(line) {
+            Some(fields) => Some(self.reply(interpret(fields))),
+            None => None,
+        }
+    }
+
+    // Gives the devices back, as the frames have left them.
+    pub fn into_devices(self) -> (R, O, CA, CB)
+        ensures { λ r. ⌜ (R·Device .meaning (r .0) ≡ (view (R·Device .meaning) (O·Device .meaning) (CA·Device .meaning) (CB·Device .meaning) self) .ram) × (O·Device .meaning (r .1) ≡ (view (R·Device .meaning) (O·Device .meaning) (CA·Device .meaning) (CB·Device .meaning) self) .rom) × (CA·Device .meaning (r .2) ≡ (view (R·Device .meaning) (O·Device .meaning) (CA·Device .meaning) (CB·Device .meaning) self) .card-a) × (CB·Device .meaning (r .3) ≡ (view (R·Device .meaning) (O·Device .meaning) (CA·Device .meaning) (CB·Device .meaning) self) .card-b) ⌝ }
+    {
+        let Engine {
+            power,
+            pages,
+            ram,
+            rom,
+            card_a,
+            card_b,
+        } = self;
+        (ram, rom, card_a, card_b)
+    }
+
+    fn reply(&mut self, asked: Result<Command, Refusal>) -> Answer
+        ensures answer { λ r. ⌜ r ≡ answered (outcome-if (ok-map frame-of asked) (view (R·Device .meaning) (O·Device .meaning) (CA·Device .meaning) (CB·Device .meaning) (now (self .entry)))) (step-if (ok-map frame-of asked) (view (R·Device .meaning) (O·Device .meaning) (CA·Device .meaning) (CB·Device .meaning) (now (self .entry)))) ⌝ }
+        ensures after { λ _. ⌜ view (R·Device .meaning) (O·Device .meaning) (CA·Device .meaning) (CB·Device .meaning) (now (self .exit)) ≡ step-if (ok-map frame-of asked) (view (R·Device .meaning) (O·Device .meaning) (CA·Device .meaning) (CB·Device .meaning) (now (self .entry))) ⌝ }
+    {
+        let outcome = self.attempt(asked);
         Answer {
             outcome,
             state: self.power.state(),
@@ -70,11 +107,11 @@ impl<R: Device, O: Device, CA: Device, CB: Device> Engine<R, O, CA, CB> {
         }
     }
 
-    fn take(&mut self, line: &[u8]) -> Result<u16, Refusal>
-        ensures outcome { λ r. ⌜ r ≡ outcome (view (R·Device .meaning) (O·Device .meaning) (CA·Device .meaning) (CB·Device .meaning) (now (self .entry))) (now (line .entry)) ⌝ }
-        ensures after { λ _. ⌜ view (R·Device .meaning) (O·Device .meaning) (CA·Device .meaning) (CB·Device .meaning) (now (self .exit)) ≡ step (view (R·Device .meaning) (O·Device .meaning) (CA·Device .meaning) (CB·Device .meaning) (now (self .entry))) (now (line .entry)) ⌝ }
+    fn attempt(&mut self, asked: Result<Command, Refusal>) -> Result<u16, Refusal>
+        ensures outcome { λ r. ⌜ r ≡ outcome-if (ok-map frame-of asked) (view (R·Device .meaning) (O·Device .meaning) (CA·Device .meaning) (CB·Device .meaning) (now (self .entry))) ⌝ }
+        ensures after { λ _. ⌜ view (R·Device .meaning) (O·Device .meaning) (CA·Device .meaning) (CB·Device .meaning) (now (self .exit)) ≡ step-if (ok-map frame-of asked) (view (R·Device .meaning) (O·Device .meaning) (CA·Device .meaning) (CB·Device .meaning) (now (self .entry))) ⌝ }
     {
-        match decode(line) {
+        match asked {
             Ok(command) => self.carry_out(command),
             Err(refusal) => Err(refusal),
         }

@@ -5,6 +5,7 @@ mod decode;
 mod engine;
 mod kind;
 
+pub use answer::ANSWER_LENGTH;
 pub use answer::Answer;
 pub use command::Command;
 pub use engine::Engine;

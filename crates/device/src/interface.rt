@@ -11,11 +11,10 @@ use terms::Place;
 pub trait Device {
     ghost meaning: { Self → Meaning };
 
-    law within: { (d : Self) → meaning d .size ≤ places };
-
     // How many places it has.
     fn size(&self) -> u32
-        ensures { λ r. ⌜ r ≡ meaning (now (self .entry)) .size ⌝ };
+        ensures all { λ r. ⌜ r ≡ meaning (now (self .entry)) .size ⌝ }
+        ensures within { λ r. ⌜ r ≤ places ⌝ };
 
     // Whether the place exists and can be written.
     fn is_open(&self, place: Place) -> bool

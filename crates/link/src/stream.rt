@@ -46,6 +46,7 @@ impl<R: Device, O: Device, CA: Device, CB: Device> Link<R, O, CA, CB> {
     // A byte is taken only where there is room for an answer to each byte before it and to itself.
     pub fn receive(&mut self, chunk: &[u8], out: &mut [u8]) -> Progress
         ensures read { λ r. ⌜ r .read ≡ taken (now (chunk .entry)) (now (out .entry)) ⌝ }
+        ensures within { λ r. ⌜ r .written ≤ length (now (out .entry)) ⌝ }
         ensures received { λ r. ⌜ Goes-on (view (R·Device .meaning) (O·Device .meaning) (CA·Device .meaning) (CB·Device .meaning) (now (self .entry) .engine)) (held (now (self .entry))) (view (R·Device .meaning) (O·Device .meaning) (CA·Device .meaning) (CB·Device .meaning) (now (self .exit) .engine)) (held (now (self .exit))) (take (r .read) (now (chunk .entry))) (take (r .written) (now (out .exit))) ⌝ }
         ensures rest { λ r. ⌜ drop (r .written) (now (out .exit)) ≡ drop (r .written) (now (out .entry)) ⌝ }
     {

@@ -12,4 +12,5 @@ pub use event::Event;
 pub use event::Source;
 pub use register::Register;
 pub use state::State;
+pub use state::StatePartialEq;
 pub use unit::PowerUnit;

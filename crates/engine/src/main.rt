@@ -5,6 +5,8 @@ mod fault;
 use board::Memory;
 use device::BackedRamDevice;
 use device::EmptyDevice;
+use device::GuardDevice;
+use device::PairDevice;
 use device::RamDevice;
 use device::RomDevice;
 use fault::Fault;

@@ -13,7 +13,7 @@ use terms::PLACES;
 use terms::Refusal;
 
 // A socket takes one device; the engine has four.
-#[derive(Clone, Copy, PartialEq, Eq, Debug)]
+#[derive(Clone, Copy)]
 pub enum Socket {
     Ram = 0,
     Rom = 1,
@@ -39,7 +39,7 @@ impl Socket {
 }
 
 // What a page word says of its page. The device page is counted in pages of the device.
-#[derive(Clone, Copy, PartialEq, Eq, Debug)]
+#[derive(Clone, Copy)]
 pub struct PageParts {
     pub mapped: bool,
     pub readonly: bool,

@@ -7,7 +7,7 @@ ghost use Rattle.power.specs.States.{state-number, state-of, asleep, is-load};
 ghost use Rattle.power.specs.Registers.{index};
 use super::Register;
 
-#[derive(Clone, Copy, PartialEq, Eq, Debug)]
+#[derive(Clone, Copy, PartialEq)]
 pub enum State {
     On = 0,
     Doze = 1,

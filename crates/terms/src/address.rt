@@ -9,14 +9,14 @@ ghost use Rattle.std.specs.declared.option.Option.the-variants.{Some, None};
 ghost use Rattle.std.specs.Options.{mapped};
 ghost use Rattle.terms.specs.Limits.{addresses, cpu-pages, page-size};
 
-#[derive(Clone, Copy, PartialEq, Eq, Debug)]
+#[derive(Clone, Copy)]
 pub struct CpuAddress {
     bits: u32,
     ghost fits: { bits < addresses },
 }
 
 // One of the 64 pages of the processor's addresses.
-#[derive(Clone, Copy, PartialEq, Eq, Debug)]
+#[derive(Clone, Copy)]
 pub struct CpuPage {
     number: u8,
     ghost fits: { number < cpu-pages },

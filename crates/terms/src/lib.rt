@@ -10,4 +10,6 @@ pub use place::PLACES;
 pub use place::Place;
 pub use refusal::Fault;
 pub use refusal::Refusal;
+pub use refusal::RefusalDebug;
 pub use refusal::RefusalFromFault;
+pub use refusal::RefusalPartialEq;

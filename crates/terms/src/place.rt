@@ -13,7 +13,7 @@ pub const PLACES: u32 = 67_108_864;
 // The bytes of a page, of CPU addresses and of a device alike.
 pub const PAGE_SIZE: u32 = 16_384;
 
-#[derive(Clone, Copy, PartialEq, Eq, Debug)]
+#[derive(Clone, Copy)]
 pub struct Place {
     index: u32,
     ghost fits: { index < places },

@@ -2,7 +2,7 @@
 ghost use mathlib.Core.Path.{_≡_};
 ghost use Rattle.terms.specs.Numbers.{number, passed-up};
 
-#[derive(Clone, Copy, PartialEq, Eq, Debug)]
+#[derive(Clone, Copy, PartialEq, Debug)]
 pub enum Refusal {
     NotAFrame = 0x01,
     UnknownKind = 0x02,
@@ -28,7 +28,7 @@ impl Refusal {
 }
 
 // What a device answers in place of a byte.
-#[derive(Clone, Copy, PartialEq, Eq, Debug)]
+#[derive(Clone, Copy, PartialEq)]
 pub enum Fault {
     NoSuchPlace,
     WriteProtected,

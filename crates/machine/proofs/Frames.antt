@@ -1,0 +1,46 @@
+-- What is known of a line by what it is decoded to.
+use mathlib.Core.Path.{_≡_, refl, sym, ap, _∙_, subst}
+use mathlib.Core.Bool.{Bool, true, false, cond, not, _&&_, _||_}
+use Prim.Native.Nat.{ℕ}
+use native.Mathlib.Omega.{arith}
+use lib.Dec.{eqb, leb, ltb}
+use Rattle.std.proofs.shelf.Ways.{tells}
+use Rattle.std.specs.declared.option.Option.{Option}
+use Rattle.std.specs.declared.option.Option.the-variants.{Some, None}
+use Rattle.std.specs.declared.result.Result.{Result}
+use Rattle.std.specs.declared.result.Result.the-variants.{Ok, Err}
+use Rattle.terms.specs.declared.refusal.Refusal.{Refusal}
+use Rattle.terms.specs.declared.refusal.Refusal.the-variants as refusal
+use Rattle.machine.specs.Lines.{Line, is-frame, kind-field, a-field, v-field}
+use Rattle.machine.specs.Kinds.{kind-number, kind-of}
+use Rattle.machine.specs.Decode.{Frame, checked, listed, decoded}
+use Rattle.machine.specs.declared.kind.Kind.{Kind}
+use Rattle.machine.specs.declared.kind.Kind.the-variants as kind
+use Rattle.machine.proofs.Press.{impossible}
+
+-- a frame was made of these fields
+pub record Of-fields (f : Frame) (k a v : ℕ) : Type 0 where
+  pub kind-is : kind-number (f .kind) ≡ k
+  pub a-is : f .a ≡ a
+  pub v-is : f .v ≡ v
+
+of-kind : (k : Kind) (n : ℕ) → kind-of n ≡ Some k → kind-number k ≡ n
+of-kind k n e = grind (arith, tells)
+
+of-checked : (k : Kind) (n a v : ℕ) (f : Frame) → kind-number k ≡ n → checked k a v ≡ Ok f → Of-fields f n a v
+of-checked k n a v f num e =
+    let same : record { kind = k; a = a; v = v } ≡ f = grind (arith, tells) in
+    record { kind-is = ap (λ (x : Frame). kind-number (x .kind)) (sym same) ∙ num; a-is = ap (λ (x : Frame). x .a) (sym same); v-is = ap (λ (x : Frame). x .v) (sym same) }
+
+of-listed : (o : Option Kind) (n a v : ℕ) (f : Frame) → kind-of n ≡ o → listed o a v ≡ Ok f → Of-fields f n a v
+of-listed None n a v f o e = impossible (cc)
+of-listed (Some k) n a v f o e = of-checked k n a v f (of-kind k n o) e
+
+of-cond : (b : Bool) (n a v : ℕ) (f : Frame) → cond b (listed (kind-of n) a v) (Err refusal.NotAFrame) ≡ Ok f → Of-fields f n a v
+of-cond true n a v f e = of-listed (kind-of n) n a v f refl e
+of-cond false n a v f e = impossible (cc)
+
+-- a line's frame has the line's fields
+pub of-line : (l : Line) (f : Frame) → decoded l ≡ Ok f → Of-fields f (kind-field l) (a-field l) (v-field l)
+unfolding decoded
+of-line l f e = of-cond (is-frame l) (kind-field l) (a-field l) (v-field l) f e

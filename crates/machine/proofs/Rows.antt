@@ -22,7 +22,7 @@ use Rattle.machine.specs.Step.{outcome, outcome-if}
 use Rattle.machine.specs.Refusals.{is-listed, unlisted, unused-not-zero, value-above, index-above, commanded-asleep, writes-protected-register, not-mapped, writes-read-only, unpowered, no-place, writes-protected-place, suspends-with-cause, rows, first-fit, refused-with}
 
 -- the rows after the first, on the fields
-abbrev judged : Machine → ℕ → ℕ → ℕ → Option Refusal
+abbrev pub judged : Machine → ℕ → ℕ → ℕ → Option Refusal
 judged m k a v =
     cond (unlisted k) (Some refusal.UnknownKind)
     (cond (unused-not-zero k a v) (Some refusal.UnusedFieldNotZero)
@@ -127,3 +127,7 @@ by-frame false m k a v h = refl
 pub first-row : (m : Machine) (l : Line) → refused-with (outcome m l) ≡ first-fit rows m l
 unfolding outcome decoded
 first-row m l = by-frame (is-frame l) m (kind-field l) (a-field l) (v-field l) (v-below l)
+
+-- of a frame, the rows after the first
+pub judged-is : (m : Machine) (l : Line) → is-frame l ≡ true → refused-with (outcome m l) ≡ judged m (kind-field l) (a-field l) (v-field l)
+judged-is m l f = first-row m l ∙ ap (λ b. cond (not b) (Some refusal.NotAFrame) (judged m (kind-field l) (a-field l) (v-field l))) f

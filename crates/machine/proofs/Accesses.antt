@@ -222,10 +222,10 @@ write-refused m None v r e = refl
 write-refused m (Some t) v r e = target-refused m t v r e
 
 -- what is made of a refusal
-abbrev noted-by : Refusal → ℕ → Machine → Machine
+abbrev pub noted-by : Refusal → ℕ → Machine → Machine
 noted-by r a m = access.noted (Err r) a m
 
-plain-refusal : (r : Refusal) (a : ℕ) (m : Machine) → is-violation r ≡ false → noted-by r a m ≡ m
+pub plain-refusal : (r : Refusal) (a : ℕ) (m : Machine) → is-violation r ≡ false → noted-by r a m ≡ m
 plain-refusal refusal.NotAFrame a m e = refl
 plain-refusal refusal.UnknownKind a m e = refl
 plain-refusal refusal.UnusedFieldNotZero a m e = refl
@@ -240,7 +240,7 @@ plain-refusal refusal.NoSuchPlace a m e = refl
 plain-refusal refusal.WriteProtected a m e = impossible (cc)
 plain-refusal refusal.CausePending a m e = refl
 
-violation : (r : Refusal) (a : ℕ) (m : Machine) → is-violation r ≡ true → noted-by r a m ≡ with-power (violated a (m .power)) m
+pub violation : (r : Refusal) (a : ℕ) (m : Machine) → is-violation r ≡ true → noted-by r a m ≡ with-power (violated a (m .power)) m
 violation refusal.NotAFrame a m e = impossible (cc)
 violation refusal.UnknownKind a m e = impossible (cc)
 violation refusal.UnusedFieldNotZero a m e = impossible (cc)
@@ -255,7 +255,7 @@ violation refusal.NoSuchPlace a m e = impossible (cc)
 violation refusal.WriteProtected a m e = refl
 violation refusal.CausePending a m e = impossible (cc)
 
-no-value-err : (x : Result (Unit {0}) Refusal) (r : Refusal) → no-value x ≡ Err r → x ≡ Err r
+pub no-value-err : (x : Result (Unit {0}) Refusal) (r : Refusal) → no-value x ≡ Err r → x ≡ Err r
 no-value-err (Ok u) r e = impossible (cc)
 no-value-err (Err q) r e = let same : q ≡ r = cc in ap (λ (z : Refusal). Err z) same
 
@@ -292,7 +292,7 @@ asleep-only m x r e =
       | inr n ↦ impossible (let same : Ok x ≡ Err r = sym (cond-false (asleep (m .power .state)) (Err refusal.Asleep) (Ok x) n) ∙ e in cc)
     ]
 
-refused-done : (k : Kind) (a v : ℕ) (m : Machine) (r : Refusal) → outcome-as k a v m ≡ Err r → done-as k a v m ≡ noted-by r a m
+pub refused-done : (k : Kind) (a v : ℕ) (m : Machine) (r : Refusal) → outcome-as k a v m ≡ Err r → done-as k a v m ≡ noted-by r a m
 refused-done kind.Reset a v m r e = impossible (cc)
 refused-done kind.RegisterWrite a v m r e =
     let w = no-value-err (write-answer a v (m .power)) r e in
@@ -331,7 +331,7 @@ refused-done kind.Battery a v m r e = impossible (cc)
 refused-done kind.Ac a v m r e = impossible (cc)
 
 -- a violation happens only while awake
-violated-awake : (a : ℕ) (u : Power) → asleep (u .state) ≡ false → violated a u ≡ raised cause.Violation (noted a u)
+pub violated-awake : (a : ℕ) (u : Power) → asleep (u .state) ≡ false → violated a u ≡ raised cause.Violation (noted a u)
 violated-awake a u z = cond-false (asleep (u .state)) u (raised cause.Violation (noted a u)) z
 
 violation-outputs : (a : ℕ) (u : Power) → outputs (raised cause.Violation (noted a u)) ≡ outputs u
@@ -353,7 +353,7 @@ asleep-plain kind.Alarm a v m r z e = impossible (cc)
 asleep-plain kind.Battery a v m r z e = impossible (cc)
 asleep-plain kind.Ac a v m r z e = impossible (cc)
 
-awake-violation : (k : Kind) (a v : ℕ) (m : Machine) (r : Refusal) → outcome-as k a v m ≡ Err r → is-violation r ≡ true → asleep (m .power .state) ≡ false
+pub awake-violation : (k : Kind) (a v : ℕ) (m : Machine) (r : Refusal) → outcome-as k a v m ≡ Err r → is-violation r ≡ true → asleep (m .power .state) ≡ false
 awake-violation k a v m r e noted-it =
     elim (cases-bool (asleep (m .power .state))) [
       | inl z ↦ absurd (both-ways (is-violation r) (asleep-plain k a v m r z e) noted-it)

@@ -4,6 +4,7 @@ pub mod Decode
 pub mod Machine
 pub mod Access
 pub mod Step
+pub mod Arising
 pub mod Bytes
 pub mod Refusals
 pub mod Signals

@@ -268,13 +268,13 @@ cpu-refused m a v r e =
 left-plain : (r : Refusal) (a : ℕ) (m n : Machine) → is-violation r ≡ false → n ≡ m → n ≡ noted-by r a m
 left-plain r a m n plain same = same ∙ sym (plain-refusal r a m plain)
 
-write-plain : (i v : ℕ) (u : Power) (r : Refusal) → write-answer i v u ≡ Err r → is-violation r ≡ false
+pub write-plain : (i v : ℕ) (u : Power) (r : Refusal) → write-answer i v u ≡ Err r → is-violation r ≡ false
 write-plain i v u r e = grind (arith, tells)
 
 write-left : (i v : ℕ) (u : Power) (r : Refusal) → write-answer i v u ≡ Err r → write-done i v u ≡ u
 write-left i v u r e = cond-false (isOk (write-answer i v u)) (stores i v u) u (ap isOk e)
 
-read-plain : (i : ℕ) (u : Power) (r : Refusal) → read-answer i u ≡ Err r → is-violation r ≡ false
+pub read-plain : (i : ℕ) (u : Power) (r : Refusal) → read-answer i u ≡ Err r → is-violation r ≡ false
 read-plain i u r e = grind (arith, tells)
 
 read-left : (i : ℕ) (u : Power) (r : Refusal) → read-answer i u ≡ Err r → read-done i u ≡ u
@@ -285,7 +285,7 @@ read-left i u r e =
 read-refusal : (m : Machine) (a : ℕ) (r : Refusal) → cpu-read m a ≡ Err r → is-violation r ≡ false
 read-refusal m a r e = grind (arith, tells)
 
-asleep-only : {X : Type 0} (m : Machine) (x : X) (r : Refusal) → awake-only m (Ok x) ≡ Err r → (asleep (m .power .state) ≡ true) × (is-violation r ≡ false)
+pub asleep-only : {X : Type 0} (m : Machine) (x : X) (r : Refusal) → awake-only m (Ok x) ≡ Err r → (asleep (m .power .state) ≡ true) × (is-violation r ≡ false)
 asleep-only m x r e =
     elim (cases-bool (asleep (m .power .state))) [
       | inl z ↦ (z, let same : Err refusal.Asleep ≡ Err r = sym (cond-true (asleep (m .power .state)) (Err refusal.Asleep) (Ok x) z) ∙ e in let q : refusal.Asleep ≡ r = cc in ap is-violation (sym q))

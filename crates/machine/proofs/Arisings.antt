@@ -19,6 +19,7 @@ use Rattle.mapper.specs.Translation.{Target, leads}
 use Rattle.power.specs.States.{asleep}
 use Rattle.power.specs.Power.{Power, mask, cause}
 use Rattle.power.specs.Registers.{bit}
+use Rattle.power.specs.Commands.{write-answer}
 use Rattle.power.specs.Causes.{position, raised, noted}
 use Rattle.power.specs.declared.cause.Cause.{Cause}
 use Rattle.power.specs.declared.cause.Cause.the-variants as is
@@ -41,7 +42,7 @@ use Rattle.machine.specs.declared.kind.Kind.the-variants as kind
 use Rattle.machine.proofs.Press.{impossible, settled-low, low-settled}
 use Rattle.machine.proofs.Signals.{cond-same, Inputs, inputs-after, inputs-agree, level-agrees, signal-is}
 use Rattle.machine.proofs.Frames.{Of-fields, of-line}
-use Rattle.machine.proofs.Accesses.{noted-by, refused-done, violation, violated-awake, awake-violation, plain-refusal, no-value-err}
+use Rattle.machine.proofs.Accesses.{noted-by, refused-done, violation, violated-awake, awake-violation, plain-refusal, no-value-err, write-plain, read-plain, asleep-only}
 use Rattle.machine.proofs.Causes.{hits, tick-cause, ext-cause, battery-cause, activity-cause, activity-cause-in, violation-cause, tick-bits, ext-bits, battery-bits, activity-bits, ring-bits, alarm-bits, write-bits, read-bits, violation-bits}
 use Rattle.machine.proofs.Wake.{New}
 
@@ -377,3 +378,179 @@ bits-if d (Ok f) m = bits-as d (f .kind) (f .a) (f .v) m
 bits-step : (d : Cause) (m : Machine) (l : Line) → bit (position d) (cause (step m l .power)) ≡ cond (clears-if (decoded l) m) false (hits d (arisen-if (decoded l) m) || bit (position d) (cause (m .power)))
 unfolding step
 bits-step d m l = bits-if d (decoded l) m
+
+-- a line clears CAUSE where its frame does
+read-taken : (a v : ℕ) (m : Machine) → asleep-at m ≡ false → isOk (outcome-as kind.RegisterRead a v m) ≡ true
+read-taken a v m awake = grind (arith, tells)
+
+read-awake : (a v : ℕ) (m : Machine) → isOk (outcome-as kind.RegisterRead a v m) ≡ true → asleep-at m ≡ false
+read-awake a v m ok = grind (arith, tells)
+
+clears-frame : (k : Kind) (a v : ℕ) (m : Machine) → clears-as k a m ≡ true → (k ≡ kind.Reset) ⊎ ((k ≡ kind.RegisterRead) × (a ≡ 0x05) × (asleep-at m ≡ false))
+clears-frame kind.Reset a v m h = inl refl
+clears-frame kind.RegisterWrite a v m h = impossible (cc)
+clears-frame kind.RegisterRead a v m h =
+    let p = and-parts (eqb a 0x05) (not (asleep-at m)) h in
+    inr (refl, eqb-true a 0x05 (p .0), not-true (asleep-at m) (p .1))
+clears-frame kind.PageWrite a v m h = impossible (cc)
+clears-frame kind.PageRead a v m h = impossible (cc)
+clears-frame kind.CpuWrite a v m h = impossible (cc)
+clears-frame kind.CpuRead a v m h = impossible (cc)
+clears-frame kind.Tick a v m h = impossible (cc)
+clears-frame kind.Activity a v m h = impossible (cc)
+clears-frame kind.Ext a v m h = impossible (cc)
+clears-frame kind.Ring a v m h = impossible (cc)
+clears-frame kind.Alarm a v m h = impossible (cc)
+clears-frame kind.Battery a v m h = impossible (cc)
+clears-frame kind.Ac a v m h = impossible (cc)
+
+-- the facts of a line by what it is decoded to
+signal-from : (m : Machine) (l : Line) (f : Frame) → decoded l ≡ Ok f → signal m l ≡ signal-as (f .kind) (f .v)
+signal-from m l f e = signal-is m l ∙ ap signal-if e
+
+outcome-from : (m : Machine) (l : Line) (f : Frame) → decoded l ≡ Ok f → outcome m l ≡ outcome-as (f .kind) (f .a) (f .v) m
+unfolding outcome
+outcome-from m l f e = ap (λ (d : Result Frame Refusal). outcome-if d m) e
+
+outcome-bad : (m : Machine) (l : Line) (r : Refusal) → decoded l ≡ Err r → outcome m l ≡ Err r
+unfolding outcome
+outcome-bad m l r e = ap (λ (d : Result Frame Refusal). outcome-if d m) e
+
+clears-from : (m : Machine) (l : Line) (d : Result Frame Refusal) → decoded l ≡ d → clears-if d m ≡ true → Clears m l
+clears-from m l (Err r) e h = impossible (cc)
+clears-from m l (Ok f) e h =
+    let o = of-line l f e in
+    elim (clears-frame (f .kind) (f .a) (f .v) m h) [
+      | inl k ↦ inl (signal-from m l f e ∙ ap (λ x. signal-as x (f .v)) k)
+      | inr q ↦ inr (record {
+          taken = ap isOk (outcome-from m l f e) ∙ ap (λ x. isOk (outcome-as x (f .a) (f .v) m)) (q .0) ∙ read-taken (f .a) (f .v) m (q .2);
+          kind = sym (o .kind-is) ∙ ap kind-number (q .0);
+          index = sym (o .a-is) ∙ q .1;
+        })
+    ]
+
+clears-to : (m : Machine) (l : Line) (d : Result Frame Refusal) → decoded l ≡ d → Clears m l → clears-if d m ≡ true
+clears-to m l (Err r) e (inl s) = impossible (let t = sym (signal-is m l ∙ ap signal-if e) ∙ s in cc)
+clears-to m l (Err r) e (inr c) = impossible (let t = sym (ap isOk (outcome-bad m l r e)) ∙ c .taken in cc)
+clears-to m l (Ok f) e (inl s) = ap (λ k. clears-as k (f .a) m) (reset-only (f .kind) (f .v) (sym (signal-from m l f e) ∙ s))
+clears-to m l (Ok f) e (inr c) =
+    let o = of-line l f e in
+    let k = two (f .kind) (o .kind-is ∙ c .kind) in
+    let awake = read-awake (f .a) (f .v) m (ap (λ x. isOk (outcome-as x (f .a) (f .v) m)) (sym k) ∙ sym (ap isOk (outcome-from m l f e)) ∙ c .taken) in
+    ap (λ x. clears-as x (f .a) m) k
+    ∙ and-from (eqb (f .a) 0x05) (not (asleep-at m)) (eq-eqb (f .a) 0x05 (o .a-is ∙ c .index)) (not-from-false (asleep-at m) awake)
+
+-- what the machine remembers of the inputs, by the list
+record Remembers (first : Machine) (ls : List Line) : Type 0 where
+  ext-is : after first ls .power .ext ≡ level sig.ext (signals first ls)
+  battery-is : after first ls .power .battery ≡ level sig.battery (signals first ls)
+  ac-is : after first ls .power .ac ≡ level sig.ac (signals first ls)
+  low-is : after first ls .power .low ≡ inputs-after (signals first ls) .low
+
+remembers : (first : Machine) → New first → (ls : List Line) → Remembers first ls
+remembers first new ls =
+    let agree = inputs-agree first (new .calm) ls in
+    let es = signals first ls in
+    record {
+      ext-is = ap (λ (x : Inputs). x .ext) agree ∙ level-agrees sig.ext es;
+      battery-is = ap (λ (x : Inputs). x .battery) agree ∙ level-agrees sig.battery es;
+      ac-is = ap (λ (x : Inputs). x .ac) agree ∙ level-agrees sig.ac es;
+      low-is = ap (λ (x : Inputs). x .low) agree;
+    }
+
+violates-which : (r : Refusal) → is-violation r ≡ true → (r ≡ refusal.PageReadOnly) ⊎ (r ≡ refusal.WriteProtected)
+violates-which refusal.NotAFrame e = impossible (cc)
+violates-which refusal.UnknownKind e = impossible (cc)
+violates-which refusal.UnusedFieldNotZero e = impossible (cc)
+violates-which refusal.ValueTooLarge e = impossible (cc)
+violates-which refusal.IndexTooLarge e = impossible (cc)
+violates-which refusal.Asleep e = impossible (cc)
+violates-which refusal.RegisterNotWritable e = impossible (cc)
+violates-which refusal.PageNotMapped e = impossible (cc)
+violates-which refusal.PageReadOnly e = inl refl
+violates-which refusal.SocketUnpowered e = impossible (cc)
+violates-which refusal.NoSuchPlace e = impossible (cc)
+violates-which refusal.WriteProtected e = inr refl
+violates-which refusal.CausePending e = impossible (cc)
+
+violates-outcome : (o : Result ℕ Refusal) → violates o ≡ true → (o ≡ Err refusal.PageReadOnly) ⊎ (o ≡ Err refusal.WriteProtected)
+violates-outcome (Ok v) e = impossible (cc)
+violates-outcome (Err r) e =
+    elim (violates-which r e) [
+      | inl q ↦ inl (ap (λ (x : Refusal). Err x) q)
+      | inr q ↦ inr (ap (λ (x : Refusal). Err x) q)
+    ]
+
+activity-taken : (a v : ℕ) (m : Machine) → isOk (outcome-as kind.Activity a v m) ≡ true
+activity-taken a v m = refl
+
+-- a cause that arises by a frame arises on the line
+line-from : (first : Machine) → New first → (l : Line) (ls : List Line) (f : Frame) (c : Cause) → decoded l ≡ Ok f → By-frame c (f .kind) (f .a) (f .v) (after first ls) → Arises c first l ls
+line-from first new l ls f is.Doze e (k, state, last, low-ac, clear) =
+    (record { ticks = signal-from (after first ls) l f e ∙ ap (λ x. signal-as x (f .v)) k; state = state; last = last }, sym (remembers first new ls .ac-is) ∙ low-ac, clear)
+line-from first new l ls f is.Sleep e (k, state, last, clear) =
+    (record { ticks = signal-from (after first ls) l f e ∙ ap (λ x. signal-as x (f .v)) k; state = state; last = last }, clear)
+line-from first new l ls f is.Suspend e (k, state, last, clear) =
+    (record { ticks = signal-from (after first ls) l f e ∙ ap (λ x. signal-as x (f .v)) k; state = state; last = last }, clear)
+line-from first new l ls f is.Ext e (k, up, was, two-low, awake, clear) =
+    let r = remembers first new ls in
+    let rise = signal-from (after first ls) l f e ∙ ap (λ x. signal-as x (f .v)) k ∙ ap (λ b. sig.gives sig.ext b) up in
+    (((rise, sym (r .ext-is) ∙ was), low-settled (signals first ls) (sym (r .low-is) ∙ two-low)), awake, clear)
+line-from first new l ls f is.Battery e (k, up, was, awake, clear) =
+    let rise = signal-from (after first ls) l f e ∙ ap (λ x. signal-as x (f .v)) k ∙ ap (λ b. sig.gives sig.battery b) up in
+    ((rise, sym (remembers first new ls .battery-is) ∙ was), awake, clear)
+line-from first new l ls f is.Violation e (k, refused, clear) =
+    let m = after first ls in
+    (subst (λ (o : Result ℕ Refusal). (o ≡ Err refusal.PageReadOnly) ⊎ (o ≡ Err refusal.WriteProtected)) (sym (outcome-from m l f e)) (violates-outcome (outcome-as (f .kind) (f .a) (f .v) m) refused), clear)
+line-from first new l ls f is.Activity e (k, heard, in-state) =
+    let m = after first ls in
+    let o = of-line l f e in
+    (record {
+      taken = ap isOk (outcome-from m l f e) ∙ ap (λ x. isOk (outcome-as x (f .a) (f .v) m)) k ∙ activity-taken (f .a) (f .v) m;
+      kind = sym (o .kind-is) ∙ ap kind-number k;
+      not-ignored = ap (λ n. bit n (m .power .table 0x07)) (sym (o .a-is)) ∙ heard;
+    }, in-state)
+
+violated-kind : (k : Kind) (a v : ℕ) (m : Machine) (r : Refusal) → outcome-as k a v m ≡ Err r → is-violation r ≡ true → k ≡ kind.CpuWrite
+violated-kind kind.Reset a v m r e h = impossible (cc)
+violated-kind kind.RegisterWrite a v m r e h = absurd (both-ways (is-violation r) (write-plain a v (m .power) r (no-value-err (write-answer a v (m .power)) r e)) h)
+violated-kind kind.RegisterRead a v m r e h = absurd (both-ways (is-violation r) (read-plain a (m .power) r e) h)
+violated-kind kind.PageWrite a v m r e h = absurd (both-ways (is-violation r) (asleep-only m 0 r e .1) h)
+violated-kind kind.PageRead a v m r e h = absurd (both-ways (is-violation r) (asleep-only m (m .words a) r e .1) h)
+violated-kind kind.CpuWrite a v m r e h = refl
+violated-kind kind.CpuRead a v m r e h = impossible (grind (arith, tells))
+violated-kind kind.Tick a v m r e h = impossible (cc)
+violated-kind kind.Activity a v m r e h = impossible (cc)
+violated-kind kind.Ext a v m r e h = impossible (cc)
+violated-kind kind.Ring a v m r e h = impossible (cc)
+violated-kind kind.Alarm a v m r e h = impossible (cc)
+violated-kind kind.Battery a v m r e h = impossible (cc)
+violated-kind kind.Ac a v m r e h = impossible (cc)
+
+-- and the other way
+line-to : (first : Machine) → New first → (l : Line) (ls : List Line) (f : Frame) (c : Cause) → decoded l ≡ Ok f → Arises c first l ls → By-frame c (f .kind) (f .a) (f .v) (after first ls)
+line-to first new l ls f is.Doze e (out, low-ac, clear) =
+    (tick-only (f .kind) (f .v) (sym (signal-from (after first ls) l f e) ∙ out .ticks), out .state, out .last, remembers first new ls .ac-is ∙ low-ac, clear)
+line-to first new l ls f is.Sleep e (out, clear) =
+    (tick-only (f .kind) (f .v) (sym (signal-from (after first ls) l f e) ∙ out .ticks), out .state, out .last, clear)
+line-to first new l ls f is.Suspend e (out, clear) =
+    (tick-only (f .kind) (f .v) (sym (signal-from (after first ls) l f e) ∙ out .ticks), out .state, out .last, clear)
+line-to first new l ls f is.Ext e (press, awake, clear) =
+    let r = remembers first new ls in
+    let given = sym (signal-from (after first ls) l f e) ∙ press .0 .0 in
+    (ext-only (f .kind) (f .v) given, rise-only (f .kind) (f .v) sig.ext given, r .ext-is ∙ press .0 .1, r .low-is ∙ settled-low (signals first ls) (press .1), awake, clear)
+line-to first new l ls f is.Battery e (rise, awake, clear) =
+    let given = sym (signal-from (after first ls) l f e) ∙ rise .0 in
+    (battery-only (f .kind) (f .v) given, rise-only (f .kind) (f .v) sig.battery given, remembers first new ls .battery-is ∙ rise .1, awake, clear)
+line-to first new l ls f is.Violation e (inl o, clear) =
+    let m = after first ls in
+    let x = sym (outcome-from m l f e) ∙ o in
+    (violated-kind (f .kind) (f .a) (f .v) m refusal.PageReadOnly x refl, ap violates x, clear)
+line-to first new l ls f is.Violation e (inr o, clear) =
+    let m = after first ls in
+    let x = sym (outcome-from m l f e) ∙ o in
+    (violated-kind (f .kind) (f .a) (f .v) m refusal.WriteProtected x refl, ap violates x, clear)
+line-to first new l ls f is.Activity e (active, in-state) =
+    let m = after first ls in
+    let o = of-line l f e in
+    (seventeen (f .kind) (o .kind-is ∙ active .kind), ap (λ n. bit n (m .power .table 0x07)) (o .a-is) ∙ active .not-ignored, in-state)

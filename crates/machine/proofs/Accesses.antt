@@ -386,7 +386,7 @@ form-plain : (b : Bool) (k : ℕ) (a v : ℕ) (q : Refusal) → cond b (listed (
 form-plain true k a v q e = listed-plain (kind-of k) a v q e
 form-plain false k a v q e = let same : refusal.NotAFrame ≡ q = cc in ap is-violation (sym same)
 
-decoded-plain : (l : Line) (q : Refusal) → decoded l ≡ Err q → is-violation q ≡ false
+pub decoded-plain : (l : Line) (q : Refusal) → decoded l ≡ Err q → is-violation q ≡ false
 unfolding decoded
 decoded-plain l q e = form-plain (is-frame l) (kind-field l) (a-field l) (v-field l) q e
 

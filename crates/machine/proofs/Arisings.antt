@@ -3,7 +3,8 @@ use mathlib.Core.Path.{_≡_, refl, sym, ap, _∙_, subst}
 use mathlib.Core.Bool.{Bool, true, false, cond, not, _&&_, _||_}
 use mathlib.Core.List.{List, [], _∷_, _++_}
 use mathlib.Core.Logic.{_⊎_, inl, inr}
-use Prim.Native.Nat.{ℕ, _^_}
+use Prim.Native.Nat.{ℕ, _/_, _%_, _^_}
+use native.Mathlib.Nat.{zero-div}
 use native.Mathlib.Omega.{arith}
 use lib.Dec.{eqb, leb, ltb}
 use Rattle.std.proofs.shelf.Ways.{tells}
@@ -42,7 +43,7 @@ use Rattle.machine.specs.declared.kind.Kind.the-variants as kind
 use Rattle.machine.proofs.Press.{impossible, settled-low, low-settled}
 use Rattle.machine.proofs.Signals.{cond-same, Inputs, inputs-after, inputs-agree, level-agrees, signal-is}
 use Rattle.machine.proofs.Frames.{Of-fields, of-line}
-use Rattle.machine.proofs.Accesses.{noted-by, refused-done, violation, violated-awake, awake-violation, plain-refusal, no-value-err, write-plain, read-plain, asleep-only}
+use Rattle.machine.proofs.Accesses.{noted-by, refused-done, violation, violated-awake, awake-violation, plain-refusal, no-value-err, write-plain, read-plain, asleep-only, decoded-plain}
 use Rattle.machine.proofs.Causes.{hits, tick-cause, ext-cause, battery-cause, activity-cause, activity-cause-in, violation-cause, tick-bits, ext-bits, battery-bits, activity-bits, ring-bits, alarm-bits, write-bits, read-bits, violation-bits}
 use Rattle.machine.proofs.Wake.{New}
 
@@ -112,41 +113,35 @@ clears-as kind.Alarm a m = false
 clears-as kind.Battery a m = false
 clears-as kind.Ac a m = false
 
-zero-bit : (d : Cause) → bit (position d) 0 ≡ false
-zero-bit is.Doze = refl
-zero-bit is.Sleep = refl
-zero-bit is.Suspend = refl
-zero-bit is.Ext = refl
-zero-bit is.Battery = refl
-zero-bit is.Violation = refl
-zero-bit is.Activity = refl
+zero-bit : (j : ℕ) → bit j 0 ≡ false
+zero-bit j = ap (λ n. eqb (n % 2) 1) (zero-div (2 ^ j))
 
-cleared-bit : (d : Cause) (b : Bool) (x : ℕ) → bit (position d) (cond b 0 x) ≡ cond b false (bit (position d) x)
-cleared-bit d true x = zero-bit d
-cleared-bit d false x = refl
+cleared-bit : (j : ℕ) (b : Bool) (x : ℕ) → bit j (cond b 0 x) ≡ cond b false (bit j x)
+cleared-bit j true x = zero-bit j
+cleared-bit j false x = refl
 
-violates-bits : (d : Cause) (a : ℕ) (u : Power) (b : Bool) → bit (position d) (cause (cond b (raised is.Violation (noted a u)) u)) ≡ (hits d (violation-cause b u) || bit (position d) (cause u))
-violates-bits d a u true = violation-bits d a u
-violates-bits d a u false = refl
+violates-bits : (j : ℕ) (a : ℕ) (u : Power) (b : Bool) → bit j (cause (cond b (raised is.Violation (noted a u)) u)) ≡ (hits j (violation-cause b u) || bit j (cause u))
+violates-bits j a u true = violation-bits j a u
+violates-bits j a u false = refl
 
-bits-as : (d : Cause) (k : Kind) (a v : ℕ) (m : Machine)
-    → bit (position d) (cause (done-as k a v m .power)) ≡ cond (clears-as k a m) false (hits d (arisen-as k a v m) || bit (position d) (cause (m .power)))
-bits-as d kind.Reset a v m = zero-bit d
-bits-as d kind.RegisterWrite a v m = ap (bit (position d)) (write-bits a v (m .power))
-bits-as d kind.RegisterRead a v m = ap (bit (position d)) (read-bits a (m .power)) ∙ cleared-bit d (eqb a 0x05 && not (asleep (m .power .state))) (cause (m .power))
-bits-as d kind.PageWrite a v m = cond-same (λ (x : Machine). bit (position d) (cause (x .power))) (asleep (m .power .state)) m _ (bit (position d) (cause (m .power))) refl refl
-bits-as d kind.PageRead a v m = refl
-bits-as d kind.CpuWrite a v m =
-    ap (λ (u : Power). bit (position d) (cause u)) (cpu-power m a v (outcome-as kind.CpuWrite a v m) refl)
-    ∙ violates-bits d a (m .power) (violates (outcome-as kind.CpuWrite a v m))
-bits-as d kind.CpuRead a v m = refl
-bits-as d kind.Tick a v m = tick-bits d (m .power)
-bits-as d kind.Activity a v m = activity-bits d a (m .power)
-bits-as d kind.Ext a v m = ext-bits d (high v) (m .power)
-bits-as d kind.Ring a v m = ap (bit (position d)) (ring-bits (high v) (m .power))
-bits-as d kind.Alarm a v m = ap (bit (position d)) (alarm-bits (m .power))
-bits-as d kind.Battery a v m = battery-bits d (high v) (m .power)
-bits-as d kind.Ac a v m = refl
+bits-as : (j : ℕ) (k : Kind) (a v : ℕ) (m : Machine)
+    → bit j (cause (done-as k a v m .power)) ≡ cond (clears-as k a m) false (hits j (arisen-as k a v m) || bit j (cause (m .power)))
+bits-as j kind.Reset a v m = zero-bit j
+bits-as j kind.RegisterWrite a v m = ap (bit j) (write-bits a v (m .power))
+bits-as j kind.RegisterRead a v m = ap (bit j) (read-bits a (m .power)) ∙ cleared-bit j (eqb a 0x05 && not (asleep (m .power .state))) (cause (m .power))
+bits-as j kind.PageWrite a v m = cond-same (λ (x : Machine). bit j (cause (x .power))) (asleep (m .power .state)) m _ (bit j (cause (m .power))) refl refl
+bits-as j kind.PageRead a v m = refl
+bits-as j kind.CpuWrite a v m =
+    ap (λ (u : Power). bit j (cause u)) (cpu-power m a v (outcome-as kind.CpuWrite a v m) refl)
+    ∙ violates-bits j a (m .power) (violates (outcome-as kind.CpuWrite a v m))
+bits-as j kind.CpuRead a v m = refl
+bits-as j kind.Tick a v m = tick-bits j (m .power)
+bits-as j kind.Activity a v m = activity-bits j a (m .power)
+bits-as j kind.Ext a v m = ext-bits j (high v) (m .power)
+bits-as j kind.Ring a v m = ap (bit j) (ring-bits (high v) (m .power))
+bits-as j kind.Alarm a v m = ap (bit j) (alarm-bits (m .power))
+bits-as j kind.Battery a v m = battery-bits j (high v) (m .power)
+bits-as j kind.Ac a v m = refl
 
 -- when a cause arises by a frame, by what the machine remembers
 abbrev By-frame : Cause → Kind → ℕ → ℕ → Machine → Type 0
@@ -158,7 +153,7 @@ By-frame is.Battery k a v m = (k ≡ kind.Battery) × (high v ≡ true) × (m .p
 By-frame is.Violation k a v m = (k ≡ kind.CpuWrite) × (violates (outcome-as k a v m) ≡ true) × (bit 5 (mask (m .power)) ≡ false)
 By-frame is.Activity k a v m = (k ≡ kind.Activity) × (bit a (m .power .table 0x07) ≡ false) × (((m .power .state ≡ Doze) × (bit 0 (mask (m .power)) ≡ false)) ⊎ ((m .power .state ≡ Sleep) × (bit 1 (mask (m .power)) ≡ false)))
 
-tick-from : (c : Cause) (a v : ℕ) (m : Machine) → hits c (tick-cause (m .power)) ≡ true → By-frame c kind.Tick a v m
+tick-from : (c : Cause) (a v : ℕ) (m : Machine) → hits (position c) (tick-cause (m .power)) ≡ true → By-frame c kind.Tick a v m
 tick-from is.Doze a v m h = (refl, grind (arith, tells), grind (arith, tells), grind (arith, tells), grind (arith, tells))
 tick-from is.Sleep a v m h = (refl, grind (arith, tells), grind (arith, tells), grind (arith, tells))
 tick-from is.Suspend a v m h = (refl, grind (arith, tells), grind (arith, tells), grind (arith, tells))
@@ -167,7 +162,7 @@ tick-from is.Battery a v m h = impossible (grind (arith, tells))
 tick-from is.Violation a v m h = impossible (grind (arith, tells))
 tick-from is.Activity a v m h = impossible (grind (arith, tells))
 
-ext-from : (c : Cause) (a v : ℕ) (m : Machine) → hits c (ext-cause (high v) (m .power)) ≡ true → By-frame c kind.Ext a v m
+ext-from : (c : Cause) (a v : ℕ) (m : Machine) → hits (position c) (ext-cause (high v) (m .power)) ≡ true → By-frame c kind.Ext a v m
 ext-from is.Doze a v m h = impossible (grind (arith, tells))
 ext-from is.Sleep a v m h = impossible (grind (arith, tells))
 ext-from is.Suspend a v m h = impossible (grind (arith, tells))
@@ -176,7 +171,7 @@ ext-from is.Battery a v m h = impossible (grind (arith, tells))
 ext-from is.Violation a v m h = impossible (grind (arith, tells))
 ext-from is.Activity a v m h = impossible (grind (arith, tells))
 
-battery-from : (c : Cause) (a v : ℕ) (m : Machine) → hits c (battery-cause (high v) (m .power)) ≡ true → By-frame c kind.Battery a v m
+battery-from : (c : Cause) (a v : ℕ) (m : Machine) → hits (position c) (battery-cause (high v) (m .power)) ≡ true → By-frame c kind.Battery a v m
 battery-from is.Doze a v m h = impossible (grind (arith, tells))
 battery-from is.Sleep a v m h = impossible (grind (arith, tells))
 battery-from is.Suspend a v m h = impossible (grind (arith, tells))
@@ -185,14 +180,14 @@ battery-from is.Battery a v m h = (refl, grind (arith, tells), grind (arith, tel
 battery-from is.Violation a v m h = impossible (grind (arith, tells))
 battery-from is.Activity a v m h = impossible (grind (arith, tells))
 
-either-state : (s : State) (u : Power) → hits is.Activity (activity-cause-in s u) ≡ true → ((s ≡ Doze) × (bit 0 (mask u) ≡ false)) ⊎ ((s ≡ Sleep) × (bit 1 (mask u) ≡ false))
+either-state : (s : State) (u : Power) → hits (position is.Activity) (activity-cause-in s u) ≡ true → ((s ≡ Doze) × (bit 0 (mask u) ≡ false)) ⊎ ((s ≡ Sleep) × (bit 1 (mask u) ≡ false))
 either-state On u h = impossible (cc)
 either-state Doze u h = inl (refl, grind (arith, tells))
 either-state Sleep u h = inr (refl, grind (arith, tells))
 either-state Suspend u h = impossible (cc)
 either-state Off u h = impossible (cc)
 
-activity-from : (c : Cause) (a v : ℕ) (m : Machine) → hits c (activity-cause a (m .power)) ≡ true → By-frame c kind.Activity a v m
+activity-from : (c : Cause) (a v : ℕ) (m : Machine) → hits (position c) (activity-cause a (m .power)) ≡ true → By-frame c kind.Activity a v m
 activity-from is.Doze a v m h = impossible (grind (arith, tells))
 activity-from is.Sleep a v m h = impossible (grind (arith, tells))
 activity-from is.Suspend a v m h = impossible (grind (arith, tells))
@@ -201,10 +196,10 @@ activity-from is.Battery a v m h = impossible (grind (arith, tells))
 activity-from is.Violation a v m h = impossible (grind (arith, tells))
 activity-from is.Activity a v m h =
     let heard : bit a (m .power .table 0x07) ≡ false = grind (arith, tells) in
-    let there : hits is.Activity (activity-cause-in (m .power .state) (m .power)) ≡ true = grind (arith, tells) in
+    let there : hits (position is.Activity) (activity-cause-in (m .power .state) (m .power)) ≡ true = grind (arith, tells) in
     (refl, heard, either-state (m .power .state) (m .power) there)
 
-violation-from : (c : Cause) (a v : ℕ) (m : Machine) (b : Bool) → violates (outcome-as kind.CpuWrite a v m) ≡ b → hits c (violation-cause b (m .power)) ≡ true → By-frame c kind.CpuWrite a v m
+violation-from : (c : Cause) (a v : ℕ) (m : Machine) (b : Bool) → violates (outcome-as kind.CpuWrite a v m) ≡ b → hits (position c) (violation-cause b (m .power)) ≡ true → By-frame c kind.CpuWrite a v m
 violation-from is.Doze a v m b e h = impossible (grind (arith, tells))
 violation-from is.Sleep a v m b e h = impossible (grind (arith, tells))
 violation-from is.Suspend a v m b e h = impossible (grind (arith, tells))
@@ -214,7 +209,7 @@ violation-from is.Violation a v m true e h = (refl, e, grind (arith, tells))
 violation-from is.Violation a v m false e h = impossible (cc)
 violation-from is.Activity a v m b e h = impossible (grind (arith, tells))
 
-from-frame : (c : Cause) (k : Kind) (a v : ℕ) (m : Machine) → hits c (arisen-as k a v m) ≡ true → By-frame c k a v m
+from-frame : (c : Cause) (k : Kind) (a v : ℕ) (m : Machine) → hits (position c) (arisen-as k a v m) ≡ true → By-frame c k a v m
 from-frame c kind.Reset a v m h = impossible (cc)
 from-frame c kind.RegisterWrite a v m h = impossible (cc)
 from-frame c kind.RegisterRead a v m h = impossible (cc)
@@ -230,25 +225,25 @@ from-frame c kind.Alarm a v m h = impossible (cc)
 from-frame c kind.Battery a v m h = battery-from c a v m h
 from-frame c kind.Ac a v m h = impossible (cc)
 
-to-frame : (c : Cause) (k : Kind) (a v : ℕ) (m : Machine) → By-frame c k a v m → hits c (arisen-as k a v m) ≡ true
+to-frame : (c : Cause) (k : Kind) (a v : ℕ) (m : Machine) → By-frame c k a v m → hits (position c) (arisen-as k a v m) ≡ true
 to-frame is.Doze k a v m (ek, state, last, low-ac, clear) =
-    let t : hits is.Doze (tick-cause (m .power)) ≡ true = grind (arith, tells) in ap (λ x. hits is.Doze (arisen-as x a v m)) ek ∙ t
+    let t : hits (position is.Doze) (tick-cause (m .power)) ≡ true = grind (arith, tells) in ap (λ x. hits (position is.Doze) (arisen-as x a v m)) ek ∙ t
 to-frame is.Sleep k a v m (ek, state, last, clear) =
-    let t : hits is.Sleep (tick-cause (m .power)) ≡ true = grind (arith, tells) in ap (λ x. hits is.Sleep (arisen-as x a v m)) ek ∙ t
+    let t : hits (position is.Sleep) (tick-cause (m .power)) ≡ true = grind (arith, tells) in ap (λ x. hits (position is.Sleep) (arisen-as x a v m)) ek ∙ t
 to-frame is.Suspend k a v m (ek, state, last, clear) =
-    let t : hits is.Suspend (tick-cause (m .power)) ≡ true = grind (arith, tells) in ap (λ x. hits is.Suspend (arisen-as x a v m)) ek ∙ t
+    let t : hits (position is.Suspend) (tick-cause (m .power)) ≡ true = grind (arith, tells) in ap (λ x. hits (position is.Suspend) (arisen-as x a v m)) ek ∙ t
 to-frame is.Ext k a v m (ek, up, was, two, awake, clear) =
-    let t : hits is.Ext (ext-cause (high v) (m .power)) ≡ true = grind (arith, tells) in ap (λ x. hits is.Ext (arisen-as x a v m)) ek ∙ t
+    let t : hits (position is.Ext) (ext-cause (high v) (m .power)) ≡ true = grind (arith, tells) in ap (λ x. hits (position is.Ext) (arisen-as x a v m)) ek ∙ t
 to-frame is.Battery k a v m (ek, up, was, awake, clear) =
-    let t : hits is.Battery (battery-cause (high v) (m .power)) ≡ true = grind (arith, tells) in ap (λ x. hits is.Battery (arisen-as x a v m)) ek ∙ t
+    let t : hits (position is.Battery) (battery-cause (high v) (m .power)) ≡ true = grind (arith, tells) in ap (λ x. hits (position is.Battery) (arisen-as x a v m)) ek ∙ t
 to-frame is.Violation k a v m (ek, refused, clear) =
     let w : violates (outcome-as kind.CpuWrite a v m) ≡ true = subst (λ (x : Kind). violates (outcome-as x a v m) ≡ true) ek refused in
-    let t : hits is.Violation (violation-cause true (m .power)) ≡ true = grind (arith, tells) in
-    ap (λ x. hits is.Violation (arisen-as x a v m)) ek ∙ ap (λ b. hits is.Violation (violation-cause b (m .power))) w ∙ t
+    let t : hits (position is.Violation) (violation-cause true (m .power)) ≡ true = grind (arith, tells) in
+    ap (λ x. hits (position is.Violation) (arisen-as x a v m)) ek ∙ ap (λ b. hits (position is.Violation) (violation-cause b (m .power))) w ∙ t
 to-frame is.Activity k a v m (ek, heard, inl (state, clear)) =
-    let t : hits is.Activity (activity-cause a (m .power)) ≡ true = grind (arith, tells) in ap (λ x. hits is.Activity (arisen-as x a v m)) ek ∙ t
+    let t : hits (position is.Activity) (activity-cause a (m .power)) ≡ true = grind (arith, tells) in ap (λ x. hits (position is.Activity) (arisen-as x a v m)) ek ∙ t
 to-frame is.Activity k a v m (ek, heard, inr (state, clear)) =
-    let t : hits is.Activity (activity-cause a (m .power)) ≡ true = grind (arith, tells) in ap (λ x. hits is.Activity (arisen-as x a v m)) ek ∙ t
+    let t : hits (position is.Activity) (activity-cause a (m .power)) ≡ true = grind (arith, tells) in ap (λ x. hits (position is.Activity) (arisen-as x a v m)) ek ∙ t
 
 -- which kind gives a signal
 reset-only : (k : Kind) (v : ℕ) → signal-as k v ≡ sig.reset → k ≡ kind.Reset
@@ -371,13 +366,13 @@ abbrev clears-if : Result Frame Refusal → Machine → Bool
 clears-if (Ok f) m = clears-as (f .kind) (f .a) m
 clears-if (Err r) m = false
 
-bits-if : (d : Cause) (x : Result Frame Refusal) (m : Machine) → bit (position d) (cause (step-if x m .power)) ≡ cond (clears-if x m) false (hits d (arisen-if x m) || bit (position d) (cause (m .power)))
-bits-if d (Err r) m = refl
-bits-if d (Ok f) m = bits-as d (f .kind) (f .a) (f .v) m
+bits-if : (j : ℕ) (x : Result Frame Refusal) (m : Machine) → bit j (cause (step-if x m .power)) ≡ cond (clears-if x m) false (hits j (arisen-if x m) || bit j (cause (m .power)))
+bits-if j (Err r) m = refl
+bits-if j (Ok f) m = bits-as j (f .kind) (f .a) (f .v) m
 
-bits-step : (d : Cause) (m : Machine) (l : Line) → bit (position d) (cause (step m l .power)) ≡ cond (clears-if (decoded l) m) false (hits d (arisen-if (decoded l) m) || bit (position d) (cause (m .power)))
+bits-step : (j : ℕ) (m : Machine) (l : Line) → bit j (cause (step m l .power)) ≡ cond (clears-if (decoded l) m) false (hits j (arisen-if (decoded l) m) || bit j (cause (m .power)))
 unfolding step
-bits-step d m l = bits-if d (decoded l) m
+bits-step j m l = bits-if j (decoded l) m
 
 -- a line clears CAUSE where its frame does
 read-taken : (a v : ℕ) (m : Machine) → asleep-at m ≡ false → isOk (outcome-as kind.RegisterRead a v m) ≡ true
@@ -554,3 +549,146 @@ line-to first new l ls f is.Activity e (active, in-state) =
     let m = after first ls in
     let o = of-line l f e in
     (seventeen (f .kind) (o .kind-is ∙ active .kind), ap (λ n. bit n (m .power .table 0x07)) (o .a-is) ∙ active .not-ignored, in-state)
+
+-- a line that is no well-formed frame gives no cause
+bad-line : (first : Machine) (l : Line) (ls : List Line) (r : Refusal) (c : Cause) → decoded l ≡ Err r → Arises c first l ls → _≡_ {A = ℕ} 0 1
+bad-line first l ls r is.Doze e (out, low-ac, clear) = let t = sym (signal-is (after first ls) l ∙ ap signal-if e) ∙ out .ticks in cc
+bad-line first l ls r is.Sleep e (out, clear) = let t = sym (signal-is (after first ls) l ∙ ap signal-if e) ∙ out .ticks in cc
+bad-line first l ls r is.Suspend e (out, clear) = let t = sym (signal-is (after first ls) l ∙ ap signal-if e) ∙ out .ticks in cc
+bad-line first l ls r is.Ext e (press, awake, clear) = let t = sym (signal-is (after first ls) l ∙ ap signal-if e) ∙ press .0 .0 in cc
+bad-line first l ls r is.Battery e (rise, awake, clear) = let t = sym (signal-is (after first ls) l ∙ ap signal-if e) ∙ rise .0 in cc
+bad-line first l ls r is.Violation e (inl o, clear) =
+    let t : Err r ≡ Err refusal.PageReadOnly = sym (outcome-bad (after first ls) l r e) ∙ o in
+    let same : r ≡ refusal.PageReadOnly = cc in
+    let f = decoded-plain l r e in
+    let y = ap is-violation same in cc
+bad-line first l ls r is.Violation e (inr o, clear) =
+    let t : Err r ≡ Err refusal.WriteProtected = sym (outcome-bad (after first ls) l r e) ∙ o in
+    let same : r ≡ refusal.WriteProtected = cc in
+    let f = decoded-plain l r e in
+    let y = ap is-violation same in cc
+bad-line first l ls r is.Activity e (active, in-state) = let t = sym (ap isOk (outcome-bad (after first ls) l r e)) ∙ active .taken in cc
+
+arises-from : (first : Machine) → New first → (l : Line) (ls : List Line) (c : Cause) (d : Result Frame Refusal) → decoded l ≡ d → hits (position c) (arisen-if d (after first ls)) ≡ true → Arises c first l ls
+arises-from first new l ls c (Err r) e h = impossible (cc)
+arises-from first new l ls c (Ok f) e h = line-from first new l ls f c e (from-frame c (f .kind) (f .a) (f .v) (after first ls) h)
+
+arises-to : (first : Machine) → New first → (l : Line) (ls : List Line) (c : Cause) (d : Result Frame Refusal) → decoded l ≡ d → Arises c first l ls → hits (position c) (arisen-if d (after first ls)) ≡ true
+arises-to first new l ls c (Err r) e a = impossible (bad-line first l ls r c e a)
+arises-to first new l ls c (Ok f) e a = to-frame c (f .kind) (f .a) (f .v) (after first ls) (line-to first new l ls f c e a)
+
+-- a frame by which a cause arises does not clear CAUSE
+apart : (j : ℕ) (k : Kind) (a v : ℕ) (m : Machine) → hits j (arisen-as k a v m) ≡ true → clears-as k a m ≡ false
+apart j kind.Reset a v m h = impossible (cc)
+apart j kind.RegisterWrite a v m h = refl
+apart j kind.RegisterRead a v m h = impossible (cc)
+apart j kind.PageWrite a v m h = refl
+apart j kind.PageRead a v m h = refl
+apart j kind.CpuWrite a v m h = refl
+apart j kind.CpuRead a v m h = refl
+apart j kind.Tick a v m h = refl
+apart j kind.Activity a v m h = refl
+apart j kind.Ext a v m h = refl
+apart j kind.Ring a v m h = refl
+apart j kind.Alarm a v m h = refl
+apart j kind.Battery a v m h = refl
+apart j kind.Ac a v m h = refl
+
+apart-if : (j : ℕ) (d : Result Frame Refusal) (m : Machine) → hits j (arisen-if d m) ≡ true → clears-if d m ≡ false
+apart-if j (Err r) m h = refl
+apart-if j (Ok f) m h = apart j (f .kind) (f .a) (f .v) m h
+
+-- what a bit that is set after a line says
+set-after : (clear hit was : Bool) → cond clear false (hit || was) ≡ true → (clear ≡ false) × ((hit ≡ true) ⊎ (was ≡ true))
+set-after true hit was e = impossible (cc)
+set-after false hit was e = (refl, or-cases hit was e)
+
+or-true : (x y : Bool) → y ≡ true → (x || y) ≡ true
+or-true true y e = refl
+or-true false y e = e
+
+pub pending-from : (first : Machine) → New first → (c : Cause) (ls : List Line) → bit (position c) (cause (after first ls .power)) ≡ true → Pending c first ls
+pending-from first new c [] h = absurd (both-ways (bit (position c) (cause (first .power))) (ap (bit (position c)) (new .no-cause) ∙ zero-bit (position c)) h)
+pending-from first new c (l ∷ ls) h =
+    let m = after first ls in
+    let s = set-after (clears-if (decoded l) m) (hits (position c) (arisen-if (decoded l) m)) (bit (position c) (cause (m .power))) (sym (bits-step (position c) m l) ∙ h) in
+    elim (s .1) [
+      | inl hit ↦ record { newer = []; at = l; older = ls; split = refl; arises = arises-from first new l ls c (decoded l) refl hit; uncleared = tt }
+      | inr was ↦
+          let p = pending-from first new c ls was in
+          record {
+            newer = l ∷ p .newer;
+            at = p .at;
+            older = p .older;
+            split = ap (λ (x : List Line). l ∷ x) (p .split);
+            arises = p .arises;
+            uncleared = (λ clears. both-ways (clears-if (decoded l) m) (s .0) (clears-to m l (decoded l) refl (subst (λ (x : List Line). Clears (after first x) l) (sym (p .split)) clears)), p .uncleared);
+          }
+    ]
+
+not-set : (b : Bool) → (b ≡ true → ⊥) → b ≡ false
+not-set true n = absurd (n refl)
+not-set false n = refl
+
+still-pending : (first : Machine) → New first → (c : Cause) (newer : List Line) (at : Line) (older : List Line) → Arises c first at older → Uncleared first newer (at ∷ older)
+    → bit (position c) (cause (after first (newer ++ (at ∷ older)) .power)) ≡ true
+still-pending first new c [] at older arises u =
+    let m = after first older in
+    let hit = arises-to first new at older c (decoded at) refl arises in
+    bits-step (position c) m at
+    ∙ cond-false (clears-if (decoded at) m) false (hits (position c) (arisen-if (decoded at) m) || bit (position c) (cause (m .power))) (apart-if (position c) (decoded at) m hit)
+    ∙ ap (λ b. b || bit (position c) (cause (m .power))) hit
+still-pending first new c (l ∷ newer) at older arises u =
+    let m = after first (newer ++ (at ∷ older)) in
+    let kept = not-set (clears-if (decoded l) m) (λ h. u .0 (clears-from m l (decoded l) refl h)) in
+    bits-step (position c) m l
+    ∙ cond-false (clears-if (decoded l) m) false (hits (position c) (arisen-if (decoded l) m) || bit (position c) (cause (m .power))) kept
+    ∙ or-true (hits (position c) (arisen-if (decoded l) m)) (bit (position c) (cause (m .power))) (still-pending first new c newer at older arises (u .1))
+
+pub pending-to : (first : Machine) → New first → (c : Cause) (ls : List Line) → Pending c first ls → bit (position c) (cause (after first ls .power)) ≡ true
+pending-to first new c ls p =
+    ap (λ (x : List Line). bit (position c) (cause (after first x .power))) (p .split) ∙ still-pending first new c (p .newer) (p .at) (p .older) (p .arises) (p .uncleared)
+
+-- no cause has bit 7
+no-seven : (o : Option Cause) → hits 7 o ≡ false
+no-seven None = refl
+no-seven (Some is.Doze) = refl
+no-seven (Some is.Sleep) = refl
+no-seven (Some is.Suspend) = refl
+no-seven (Some is.Ext) = refl
+no-seven (Some is.Battery) = refl
+no-seven (Some is.Violation) = refl
+no-seven (Some is.Activity) = refl
+
+all-false : (clear hit was : Bool) → hit ≡ false → was ≡ false → cond clear false (hit || was) ≡ false
+all-false true hit was e f = refl
+all-false false true was e f = impossible (cc)
+all-false false false was e f = f
+
+pub seven-clear : (first : Machine) → New first → (ls : List Line) → bit 7 (cause (after first ls .power)) ≡ false
+seven-clear first new [] = ap (bit 7) (new .no-cause) ∙ zero-bit 7
+seven-clear first new (l ∷ ls) =
+    let m = after first ls in
+    bits-step 7 m l ∙ all-false (clears-if (decoded l) m) (hits 7 (arisen-if (decoded l) m)) (bit 7 (cause (m .power))) (no-seven (arisen-if (decoded l) m)) (seven-clear first new ls)
+
+-- what a read of CAUSE reads
+cause-read : (a v value : ℕ) (m : Machine) → a ≡ 0x05 → outcome-as kind.RegisterRead a v m ≡ Ok value → value ≡ cause (m .power)
+cause-read a v value m five-it e = grind (arith, tells)
+
+cause-read-if : (d : Result Frame Refusal) (m : Machine) (k a v value : ℕ) → ((f : Frame) → d ≡ Ok f → Of-fields f k a v) → outcome-if d m ≡ Ok value → k ≡ 0x02 → a ≡ 0x05 → value ≡ cause (m .power)
+cause-read-if (Err r) m k a v value of e kt at = impossible (cc)
+cause-read-if (Ok f) m k a v value of e kt at =
+    let o = of f refl in
+    let kind-is = two (f .kind) (o .kind-is ∙ kt) in
+    cause-read (f .a) (f .v) value m (o .a-is ∙ at) (subst (λ (x : Kind). outcome-as x (f .a) (f .v) m ≡ Ok value) kind-is e)
+
+pub cause-law : (first : Machine) → New first → (ls : List Line) (l : Line) (value : ℕ) → outcome (after first ls) l ≡ Ok value → Reads-cause (after first ls) l → Cause-law first ls value
+unfolding outcome
+cause-law first new ls l value e reads =
+    let m = after first ls in
+    let is-cause = cause-read-if (decoded l) m (kind-field l) (a-field l) (v-field l) value (of-line l) e (reads .kind) (reads .index) in
+    record {
+      shown-only = λ c h. pending-from first new c ls (ap (bit (position c)) (sym is-cause) ∙ h);
+      shown-always = λ c p. ap (bit (position c)) is-cause ∙ pending-to first new c ls p;
+      no-other = ap (bit 7) is-cause ∙ seven-clear first new ls;
+    }

@@ -53,10 +53,10 @@ bit-or j x b =
     ∙ ap (λ n. eqb n 1) (or-mod (x / 2 ^ j) (b / 2 ^ j) 1)
     ∙ or-digit (x / 2 ^ j % 2) (b / 2 ^ j % 2) (mod-below (x / 2 ^ j) 2 (omega arith)) (mod-below (b / 2 ^ j) 2 (omega arith))
 
--- whether a cause is the one that arose
-abbrev pub hits : Cause → Option Cause → Bool
-hits d None = false
-hits d (Some c) = bit (position d) (2 ^ position c)
+-- whether a bit is that of the cause that arose
+abbrev pub hits : ℕ → Option Cause → Bool
+hits j None = false
+hits j (Some c) = bit j (2 ^ position c)
 
 -- the cause that arises by a tick, a rise of EXT or the battery warning, an activity, a violation
 abbrev pub tick-cause-in : State → ℕ → Option Cause
@@ -85,39 +85,39 @@ activity-cause-in Off u = None
 abbrev pub activity-cause : ℕ → Power → Option Cause
 activity-cause source u = cond (bit source (u .table 0x07)) None (activity-cause-in (u .state) u)
 
-expired-bits : (d : Cause) (s : State) (u : Power) → bit (position d) (cause (expired s u)) ≡ (hits d (tick-cause-in s (mask u)) || bit (position d) (cause u))
-expired-bits d On u = let e = bit-or (position d) (cause u) 1 in grind (arith, tells)
-expired-bits d Doze u = let e = bit-or (position d) (cause u) 2 in grind (arith, tells)
-expired-bits d Sleep u = let e = bit-or (position d) (cause u) 4 in grind (arith, tells)
-expired-bits d Suspend u = refl
-expired-bits d Off u = refl
+expired-bits : (j : ℕ) (s : State) (u : Power) → bit j (cause (expired s u)) ≡ (hits j (tick-cause-in s (mask u)) || bit j (cause u))
+expired-bits j On u = let e = bit-or j (cause u) 1 in grind (arith, tells)
+expired-bits j Doze u = let e = bit-or j (cause u) 2 in grind (arith, tells)
+expired-bits j Sleep u = let e = bit-or j (cause u) 4 in grind (arith, tells)
+expired-bits j Suspend u = refl
+expired-bits j Off u = refl
 
 -- the counter falls: to 0, or not
-falls : (d : Cause) (above last still : Bool) (c : Option Cause) (x y z : Power) → (last ≡ true → above ≡ true)
-    → bit (position d) (cause x) ≡ (hits d c || bit (position d) (cause z)) → cause y ≡ cause z
-    → bit (position d) (cause (cond (above && not still) (cond last x y) z)) ≡ (hits d (cond (last && not still) c None) || bit (position d) (cause z))
-falls d true true true c x y z h e f = refl
-falls d true true false c x y z h e f = e
-falls d true false true c x y z h e f = refl
-falls d true false false c x y z h e f = ap (bit (position d)) f
-falls d false true still c x y z h e f = impossible (let g = h refl in cc)
-falls d false false true c x y z h e f = refl
-falls d false false false c x y z h e f = refl
+falls : (j : ℕ) (above last still : Bool) (c : Option Cause) (x y z : Power) → (last ≡ true → above ≡ true)
+    → bit j (cause x) ≡ (hits j c || bit j (cause z)) → cause y ≡ cause z
+    → bit j (cause (cond (above && not still) (cond last x y) z)) ≡ (hits j (cond (last && not still) c None) || bit j (cause z))
+falls j true true true c x y z h e f = refl
+falls j true true false c x y z h e f = e
+falls j true false true c x y z h e f = refl
+falls j true false false c x y z h e f = ap (bit j) f
+falls j false true still c x y z h e f = impossible (let g = h refl in cc)
+falls j false false true c x y z h e f = refl
+falls j false false false c x y z h e f = refl
 
-pub tick-bits : (d : Cause) (u : Power) → bit (position d) (cause (ticked u)) ≡ (hits d (tick-cause u) || bit (position d) (cause u))
-tick-bits d u =
+pub tick-bits : (j : ℕ) (u : Power) → bit j (cause (ticked u)) ≡ (hits j (tick-cause u) || bit j (cause u))
+tick-bits j u =
     let w = sampled u in
-    falls d (ltb 0 (u .idle)) (eqb (u .idle) 1) (held (u .state) w) (tick-cause-in (u .state) (mask u))
-    (expired (u .state) (counting 0 w)) (counting (u .idle - 1) w) w (λ e. grind (arith, tells)) (expired-bits d (u .state) (counting 0 w)) refl
+    falls j (ltb 0 (u .idle)) (eqb (u .idle) 1) (held (u .state) w) (tick-cause-in (u .state) (mask u))
+    (expired (u .state) (counting 0 w)) (counting (u .idle - 1) w) w (λ e. grind (arith, tells)) (expired-bits j (u .state) (counting 0 w)) refl
 
-pub ext-bits : (d : Cause) (v : Bool) (u : Power) → bit (position d) (cause (ext-given v u)) ≡ (hits d (ext-cause v u) || bit (position d) (cause u))
-ext-bits d v u = let e = bit-or (position d) (cause u) 8 in grind (arith, tells)
+pub ext-bits : (j : ℕ) (v : Bool) (u : Power) → bit j (cause (ext-given v u)) ≡ (hits j (ext-cause v u) || bit j (cause u))
+ext-bits j v u = let e = bit-or j (cause u) 8 in grind (arith, tells)
 
-pub battery-bits : (d : Cause) (v : Bool) (u : Power) → bit (position d) (cause (battery-given v u)) ≡ (hits d (battery-cause v u) || bit (position d) (cause u))
-battery-bits d v u = let e = bit-or (position d) (cause u) 16 in grind (arith, tells)
+pub battery-bits : (j : ℕ) (v : Bool) (u : Power) → bit j (cause (battery-given v u)) ≡ (hits j (battery-cause v u) || bit j (cause u))
+battery-bits j v u = let e = bit-or j (cause u) 16 in grind (arith, tells)
 
-pub activity-bits : (d : Cause) (s : ℕ) (u : Power) → bit (position d) (cause (source-given s u)) ≡ (hits d (activity-cause s u) || bit (position d) (cause u))
-activity-bits d s u = let e = bit-or (position d) (cause u) 64 in grind (arith, tells)
+pub activity-bits : (j : ℕ) (s : ℕ) (u : Power) → bit j (cause (source-given s u)) ≡ (hits j (activity-cause s u) || bit j (cause u))
+activity-bits j s u = let e = bit-or j (cause u) 64 in grind (arith, tells)
 
 pub ring-bits : (v : Bool) (u : Power) → cause (ring-given v u) ≡ cause u
 ring-bits v u = grind (arith, tells)
@@ -144,5 +144,5 @@ read-bits i u = grind (arith, tells)
 abbrev pub violation-cause : Bool → Power → Option Cause
 violation-cause noted-it u = cond noted-it (cond (bit 5 (mask u)) None (Some is.Violation)) None
 
-pub violation-bits : (d : Cause) (a : ℕ) (u : Power) → bit (position d) (cause (raised is.Violation (noted a u))) ≡ (hits d (violation-cause true u) || bit (position d) (cause u))
-violation-bits d a u = let e = bit-or (position d) (cause u) 32 in grind (arith, tells)
+pub violation-bits : (j : ℕ) (a : ℕ) (u : Power) → bit j (cause (raised is.Violation (noted a u))) ≡ (hits j (violation-cause true u) || bit j (cause u))
+violation-bits j a u = let e = bit-or j (cause u) 32 in grind (arith, tells)

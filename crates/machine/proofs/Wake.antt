@@ -12,7 +12,7 @@ use Rattle.std.specs.declared.result.Result.{Result}
 use Rattle.std.specs.declared.result.Result.the-variants.{Ok, Err}
 use Rattle.terms.specs.declared.refusal.Refusal.{Refusal}
 use Rattle.power.specs.States.{asleep}
-use Rattle.power.specs.Power.{Power, ring-count}
+use Rattle.power.specs.Power.{Power, cause, ring-count}
 use Rattle.power.specs.Registers.{bit}
 use Rattle.power.specs.declared.state.State.{State}
 use Rattle.power.specs.declared.state.State.the-variants.{On}
@@ -64,10 +64,11 @@ entry-step : (m : Machine) (l : Line) → asleep-at m ≡ false → asleep-at (s
 unfolding step
 entry-step m l z y = entry-if (decoded l) m z y
 
--- a machine that is as just reset, as far as waking goes
+-- a machine that is as just reset
 pub record New (first : Machine) : Type 0 where
   pub calm : inputs (first .power) ≡ inputs-after []
   pub awake : asleep-at first ≡ false
+  pub no-cause : cause (first .power) ≡ 0
 
 -- where the list leads into Suspend or Off, there was an entry
 record Asleep-since (first : Machine) (ls : List Line) : Type 0 where

@@ -73,6 +73,9 @@ ext-judged m a v h = grind (arith, tells)
 ring-judged : Judges 0x13
 ring-judged m a v h = grind (arith, tells)
 
+alarm-judged : Judges 0x14
+alarm-judged m a v h = grind (arith, tells)
+
 battery-judged : Judges 0x15
 battery-judged m a v h = grind (arith, tells)
 
@@ -103,9 +106,10 @@ judge-all k =
     by-number Judges k 0x11 activity-judged (λ n8.
     by-number Judges k 0x12 ext-judged (λ n9.
     by-number Judges k 0x13 ring-judged (λ n10.
-    by-number Judges k 0x15 battery-judged (λ n11.
-    by-number Judges k 0x16 ac-judged (λ n12.
-    unlisted-judged k (grind (arith, tells)))))))))))))))
+    by-number Judges k 0x14 alarm-judged (λ n11.
+    by-number Judges k 0x15 battery-judged (λ n12.
+    by-number Judges k 0x16 ac-judged (λ n13.
+    unlisted-judged k (grind (arith, tells))))))))))))))))
 
 -- the digits of a frame are below 16
 digit-below : (l : Line) → all-digits l ≡ true → (i : ℕ) → i < length l → digit-at l i < 16

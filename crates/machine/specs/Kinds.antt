@@ -23,7 +23,7 @@ kind-number kind.Alarm = 0x14
 kind-number kind.Battery = 0x15
 kind-number kind.Ac = 0x16
 
--- the kind of a number, if it is listed; the alarm does not run yet
+-- the kind of a number, if it is listed
 abbrev pub kind-of : ℕ → Option Kind
 kind-of n =
     cond (eqb n 0x00) (Some kind.Reset)
@@ -37,9 +37,10 @@ kind-of n =
     (cond (eqb n 0x11) (Some kind.Activity)
     (cond (eqb n 0x12) (Some kind.Ext)
     (cond (eqb n 0x13) (Some kind.Ring)
+    (cond (eqb n 0x14) (Some kind.Alarm)
     (cond (eqb n 0x15) (Some kind.Battery)
     (cond (eqb n 0x16) (Some kind.Ac)
-    None))))))))))))
+    None)))))))))))))
 
 -- the largest a of a kind: an index, a page, an address or a source; 0 where the field is unused
 abbrev pub a-top : Kind → ℕ

@@ -6,6 +6,7 @@ pub mod Access
 pub mod Step
 pub mod Arising
 pub mod Bytes
+pub mod Laws
 pub mod Refusals
 pub mod Signals
 pub mod Waking

@@ -22,7 +22,7 @@ abbrev pub one-of : ℕ → ℕ → ℕ → Bool
 one-of k i j = eqb k i || eqb k j
 
 abbrev pub is-listed : ℕ → Bool
-is-listed k = leb k 0x06 || (leb 0x10 k && leb k 0x13) || one-of k 0x15 0x16
+is-listed k = leb k 0x06 || (leb 0x10 k && leb k 0x16)
 
 abbrev pub has-level : ℕ → Bool
 has-level k = one-of k 0x12 0x13 || one-of k 0x15 0x16

@@ -16,6 +16,8 @@ ghost use Rattle.power.specs.View.{view as power-view};
 ghost use Rattle.power.specs.Registers.{index};
 ghost use Rattle.machine.specs.View.{view, frame-of, ok-map};
 ghost use Rattle.machine.specs.Lines.{is-frame};
+ghost use Rattle.machine.specs.Laws.{Laws};
+ghost use Rattle.std.specs.Options.{Cases as BySome};
 ghost use mathlib.Core.Bool.{cond};
 ghost use Rattle.std.specs.declared.option.Option.the-variants.{Some, None};
 use super::Answer;
@@ -64,6 +66,7 @@ impl<R: Device, O: Device, CA: Device, CB: Device> Engine<R, O, CA, CB> {
     pub fn frame(&mut self, line: &[u8]) -> Answer
         ensures answer { λ r. ⌜ r ≡ answer (view (R·Device .meaning) (O·Device .meaning) (CA·Device .meaning) (CB·Device .meaning) (now (self .entry))) (now (line .entry)) ⌝ }
         ensures after { λ _. ⌜ view (R·Device .meaning) (O·Device .meaning) (CA·Device .meaning) (CB·Device .meaning) (now (self .exit)) ≡ step (view (R·Device .meaning) (O·Device .meaning) (CA·Device .meaning) (CB·Device .meaning) (now (self .entry))) (now (line .entry)) ⌝ }
+        ensures laws { λ r. ⌜ Laws (view (R·Device .meaning) (O·Device .meaning) (CA·Device .meaning) (CB·Device .meaning) (now (self .entry))) (now (line .entry)) r (view (R·Device .meaning) (O·Device .meaning) (CA·Device .meaning) (CB·Device .meaning) (now (self .exit))) ⌝ }
     {
         self.reply(decode(line))
     }
@@ -72,6 +75,7 @@ impl<R: Device, O: Device, CA: Device, CB: Device> Engine<R, O, CA, CB> {
     pub fn frame_of_digits(&mut self, line: &[u8]) -> Option<Answer>
         ensures answer { λ r. ⌜ r ≡ cond (is-frame (now (line .entry))) (Some (answer (view (R·Device .meaning) (O·Device .meaning) (CA·Device .meaning) (CB·Device .meaning) (now (self .entry))) (now (line .entry)))) None ⌝ }
         ensures after { λ _. ⌜ view (R·Device .meaning) (O·Device .meaning) (CA·Device .meaning) (CB·Device .meaning) (now (self .exit)) ≡ cond (is-frame (now (line .entry))) (step (view (R·Device .meaning) (O·Device .meaning) (CA·Device .meaning) (CB·Device .meaning) (now (self .entry))) (now (line .entry))) (view (R·Device .meaning) (O·Device .meaning) (CA·Device .meaning) (CB·Device .meaning) (now (self .entry))) ⌝ }
+        ensures laws { λ r. ⌜ BySome r (Unit {0}) (λ a. Laws (view (R·Device .meaning) (O·Device .meaning) (CA·Device .meaning) (CB·Device .meaning) (now (self .entry))) (now (line .entry)) a (view (R·Device .meaning) (O·Device .meaning) (CA·Device .meaning) (CB·Device .meaning) (now (self .exit)))) ⌝ }
     {
         match cut(line) {
             Some(fields) => Some(self.reply(interpret(fields))),

@@ -21,7 +21,7 @@ pub enum Kind {
 }
 
 impl Kind {
-    // The kind of that number, if it is listed. The alarm does not run yet.
+    // The kind of that number, if it is listed.
     pub(crate) fn new(number: u32) -> Option<Kind>
         ensures { λ r. ⌜ r ≡ kind-of number ⌝ }
     {
@@ -37,6 +37,7 @@ impl Kind {
             0x11 => Some(Kind::Activity),
             0x12 => Some(Kind::Ext),
             0x13 => Some(Kind::Ring),
+            0x14 => Some(Kind::Alarm),
             0x15 => Some(Kind::Battery),
             0x16 => Some(Kind::Ac),
             _ => None,

@@ -4,3 +4,4 @@ mod stream;
 
 pub use link::Link;
 pub use stream::Progress;
+pub use stream::Run;

@@ -5,9 +5,11 @@ ghost use Prim.Native.Nat.{ℕ, _+_, _<_, _≤_};
 ghost use denote.Ref.{now};
 ghost use lib.ListN.{length, take, drop};
 ghost use Rattle.std.specs.Options.{Cases as BySome};
-ghost use Rattle.machine.specs.Machine.{Machine};
+ghost use Rattle.machine.specs.Machine.{Machine, fresh};
 ghost use Rattle.machine.specs.Step.{after, step, answer};
 ghost use Rattle.machine.specs.Spelling.{spelled};
+ghost use Rattle.device.specs.Meaning.{Meaning};
+ghost use Rattle.machine.specs.Laws.{Lawful};
 ghost use Rattle.machine.specs.View.{view};
 ghost use Rattle.link.specs.Stream.{Stands, Goes-on, said, taken, lines, all-lines, answers};
 ghost use Rattle.link.specs.View.{held};
@@ -22,6 +24,13 @@ use machine::Engine;
 pub struct Progress {
     pub read: usize,
     pub written: usize,
+}
+
+// What a run leaves: the link with its engine, and how far it came.
+#[derive(Drop)]
+pub struct Run<R, O, CA, CB> {
+    pub link: Link<R, O, CA, CB>,
+    pub progress: Progress,
 }
 
 // How many bytes were taken, and the answer, if a line ended.
@@ -42,6 +51,26 @@ impl<R: Device, O: Device, CA: Device, CB: Device> Link<R, O, CA, CB> {
         }
     }
 
+    // Runs an input on a new engine, as far as there is room for its answers: every line of what was taken is lawful.
+    pub fn run(
+        ram: R,
+        rom: O,
+        card_a: CA,
+        card_b: CB,
+        input: &[u8],
+        out: &mut [u8],
+    ) -> Run<R, O, CA, CB>
+        ensures read { λ r. ⌜ r .progress .read ≡ taken (now (input .entry)) (now (out .entry)) ⌝ }
+        ensures stands { λ r. ⌜ Stands (fresh (R·Device .meaning ram) (O·Device .meaning rom) (CA·Device .meaning «card_a») (CB·Device .meaning «card_b»)) (take (r .progress .read) (now (input .entry))) (view (R·Device .meaning) (O·Device .meaning) (CA·Device .meaning) (CB·Device .meaning) (r .link .engine)) (held (r .link)) ⌝ }
+        ensures says { λ r. ⌜ take (r .progress .written) (now (out .exit)) ≡ answers (fresh (R·Device .meaning ram) (O·Device .meaning rom) (CA·Device .meaning «card_a») (CB·Device .meaning «card_b»)) (lines (take (r .progress .read) (now (input .entry)))) ⌝ }
+        ensures rest { λ r. ⌜ drop (r .progress .written) (now (out .exit)) ≡ drop (r .progress .written) (now (out .entry)) ⌝ }
+        ensures laws { λ r. ⌜ Lawful (fresh (R·Device .meaning ram) (O·Device .meaning rom) (CA·Device .meaning «card_a») (CB·Device .meaning «card_b»)) (lines (take (r .progress .read) (now (input .entry)))) ⌝ }
+    {
+        let mut link = Link::new(Engine::new(ram, rom, card_a, card_b));
+        let progress = link.receive(input, out);
+        Run { link, progress }
+    }
+
     // Goes on with the bytes of the chunk, and writes the answer of each line that ends in it.
     // A byte is taken only where there is room for an answer to each byte before it and to itself.
     pub fn receive(&mut self, chunk: &[u8], out: &mut [u8]) -> Progress
@@ -49,6 +78,7 @@ impl<R: Device, O: Device, CA: Device, CB: Device> Link<R, O, CA, CB> {
         ensures within { λ r. ⌜ r .written ≤ length (now (out .entry)) ⌝ }
         ensures received { λ r. ⌜ Goes-on (view (R·Device .meaning) (O·Device .meaning) (CA·Device .meaning) (CB·Device .meaning) (now (self .entry) .engine)) (held (now (self .entry))) (view (R·Device .meaning) (O·Device .meaning) (CA·Device .meaning) (CB·Device .meaning) (now (self .exit) .engine)) (held (now (self .exit))) (take (r .read) (now (chunk .entry))) (take (r .written) (now (out .exit))) ⌝ }
         ensures rest { λ r. ⌜ drop (r .written) (now (out .exit)) ≡ drop (r .written) (now (out .entry)) ⌝ }
+        ensures laws { λ r. ⌜ ((ram rom card-a card-b : Meaning) (before : List ℕ) → Stands (fresh ram rom card-a card-b) before (view (R·Device .meaning) (O·Device .meaning) (CA·Device .meaning) (CB·Device .meaning) (now (self .entry) .engine)) (held (now (self .entry))) → Lawful (fresh ram rom card-a card-b) (lines (before ++ take (r .read) (now (chunk .entry))))) ⌝ }
     {
         let read = chunk.len().min(out.len() / ANSWER_LENGTH);
         let mut at = 0;
@@ -69,6 +99,7 @@ impl<R: Device, O: Device, CA: Device, CB: Device> Link<R, O, CA, CB> {
         ensures machine { λ r. ⌜ ((first : Machine) (bytes : List ℕ) → Stands first bytes (view (R·Device .meaning) (O·Device .meaning) (CA·Device .meaning) (CB·Device .meaning) (now (self .entry) .engine)) (held (now (self .entry))) → view (R·Device .meaning) (O·Device .meaning) (CA·Device .meaning) (CB·Device .meaning) (now (self .exit) .engine) ≡ after first (all-lines bytes)) ⌝ }
         ensures says { λ r. ⌜ ((first : Machine) (bytes : List ℕ) → Stands first bytes (view (R·Device .meaning) (O·Device .meaning) (CA·Device .meaning) (CB·Device .meaning) (now (self .entry) .engine)) (held (now (self .entry))) → answers first (lines bytes) ++ said r ≡ answers first (all-lines bytes)) ⌝ }
         ensures held { λ _. ⌜ held (now (self .exit)) ≡ [] ⌝ }
+        ensures laws { λ _. ⌜ ((ram rom card-a card-b : Meaning) (bytes : List ℕ) → Stands (fresh ram rom card-a card-b) bytes (view (R·Device .meaning) (O·Device .meaning) (CA·Device .meaning) (CB·Device .meaning) (now (self .entry) .engine)) (held (now (self .entry))) → Lawful (fresh ram rom card-a card-b) (all-lines bytes)) ⌝ }
     {
         if self.len == 0 {
             return None;

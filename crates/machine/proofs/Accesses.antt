@@ -59,12 +59,12 @@ is-socket n h =
     elim (cases-eq n 0) [
       | inl e ↦ record { which = socket.Ram; number = e }
       | inr n0 ↦ elim (cases-eq n 1) [
-          | inl e ↦ record { which = socket.Rom; number = e }
-          | inr n1 ↦ elim (cases-eq n 2) [
-              | inl e ↦ record { which = socket.CardA; number = e }
-              | inr n2 ↦ record { which = socket.CardB; number = omega arith }
-            ]
+        | inl e ↦ record { which = socket.Rom; number = e }
+        | inr n1 ↦ elim (cases-eq n 2) [
+          | inl e ↦ record { which = socket.CardA; number = e }
+          | inr n2 ↦ record { which = socket.CardB; number = omega arith }
         ]
+      ]
     ]
 
 socket-of : (m : Machine) (a : ℕ) → Is-socket (socket-at m a)
@@ -145,15 +145,17 @@ write-law m l = record {
       let none = subst (λ (k : ℕ). judged m k a (v-field l) ≡ None) is-five (sym (judged-is m l (wf .frame)) ∙ ok-none (outcome m l) ok) in
       let free = free-from m a (v-field l) none in
       let s = socket-of m a in
-      let same : device m (socket-at m a) ≡ device-of m (s .which) = ap (device m) (s .number) ∙ device-is m (s .which) in
-      (s .which, record {
-        awake = free .awake;
-        leads = record { mapped = free .mapped; socket = s .number; place = refl };
-        not-read-only = free .not-read-only;
-        has-power = ap (powered (m .power)) (sym (s .number)) ∙ free .has-power;
-        exists = ltb-true (place-at m a) (device-of m (s .which) .size) (ap (λ (d : Meaning). exists d (place-at m a)) (sym same) ∙ free .there);
-        writable = ap (λ (d : Meaning). d .writable (place-at m a)) (sym same) ∙ free .writable;
-      });
+      let same : device m (socket-at m a) ≡ device-of m (s .which) = ap (device m) (s .number) ∙ device-is m (s .which) in (
+        s .which,
+        record {
+          awake = free .awake;
+          leads = record { mapped = free .mapped; socket = s .number; place = refl };
+          not-read-only = free .not-read-only;
+          has-power = ap (powered (m .power)) (sym (s .number)) ∙ free .has-power;
+          exists = ltb-true (place-at m a) (device-of m (s .which) .size) (ap (λ (d : Meaning). exists d (place-at m a)) (sym same) ∙ free .there);
+          writable = ap (λ (d : Meaning). d .writable (place-at m a)) (sym same) ∙ free .writable;
+        },
+      );
   always = λ is-five wf s allowed.
       let a = a-field l in
       let v = v-field l in
@@ -171,9 +173,9 @@ write-law m l = record {
       (judged-is m l (wf .frame)
       ∙ ap (λ k. judged m k a v) is-five
       ∙ free-to m a v
-        (subst (λ (k : ℕ). unused-not-zero k a v ≡ false) is-five (wf .unused-zero))
-        (subst (λ (k : ℕ). value-above k a v ≡ false) is-five (wf .value-fits))
-        (subst (λ (k : ℕ). index-above k a ≡ false) is-five (wf .index-fits)) free);
+      (subst (λ (k : ℕ). unused-not-zero k a v ≡ false) is-five (wf .unused-zero))
+      (subst (λ (k : ℕ). value-above k a v ≡ false) is-five (wf .value-fits))
+      (subst (λ (k : ℕ). index-above k a ≡ false) is-five (wf .index-fits)) free);
 }
 
 -- a machine by its devices
@@ -213,8 +215,8 @@ target-refused : (m : Machine) (t : Target) (v : ℕ) (r : Refusal) → write-ta
 target-refused m t v r e =
     cond-both (not (t .readonly) && powered (m .power) (t .socket)) (with-device (t .socket) (written (device m (t .socket)) (t .place) v) m) m (λ (x : Machine). x ≡ m)
     (λ through.
-      let shut : is-open (device m (t .socket)) (t .place) ≡ false = grind (arith, tells) in
-      ap (λ (d : Meaning). with-device (t .socket) d m) (written-closed (device m (t .socket)) (t .place) v shut) ∙ with-own (t .socket) m)
+    let shut : is-open (device m (t .socket)) (t .place) ≡ false = grind (arith, tells) in
+    ap (λ (d : Meaning). with-device (t .socket) d m) (written-closed (device m (t .socket)) (t .place) v shut) ∙ with-own (t .socket) m)
     (λ n. refl)
 
 write-refused : (m : Machine) (o : Option Target) (v : ℕ) (r : Refusal) → write-target m o ≡ Err r → written-target m o v ≡ m

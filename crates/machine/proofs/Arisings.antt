@@ -418,10 +418,10 @@ clears-from m l (Ok f) e h =
     elim (clears-frame (f .kind) (f .a) (f .v) m h) [
       | inl k ↦ inl (signal-from m l f e ∙ ap (λ x. signal-as x (f .v)) k)
       | inr q ↦ inr (record {
-          taken = ap isOk (outcome-from m l f e) ∙ ap (λ x. isOk (outcome-as x (f .a) (f .v) m)) (q .0) ∙ read-taken (f .a) (f .v) m (q .2);
-          kind = sym (o .kind-is) ∙ ap kind-number (q .0);
-          index = sym (o .a-is) ∙ q .1;
-        })
+        taken = ap isOk (outcome-from m l f e) ∙ ap (λ x. isOk (outcome-as x (f .a) (f .v) m)) (q .0) ∙ read-taken (f .a) (f .v) m (q .2);
+        kind = sym (o .kind-is) ∙ ap kind-number (q .0);
+        index = sym (o .a-is) ∙ q .1;
+      })
     ]
 
 clears-to : (m : Machine) (l : Line) (d : Result Frame Refusal) → decoded l ≡ d → Clears m l → clears-if d m ≡ true
@@ -499,12 +499,14 @@ line-from first new l ls f is.Violation e (k, refused, clear) =
     (subst (λ (o : Result ℕ Refusal). (o ≡ Err refusal.PageReadOnly) ⊎ (o ≡ Err refusal.WriteProtected)) (sym (outcome-from m l f e)) (violates-outcome (outcome-as (f .kind) (f .a) (f .v) m) refused), clear)
 line-from first new l ls f is.Activity e (k, heard, in-state) =
     let m = after first ls in
-    let o = of-line l f e in
-    (record {
-      taken = ap isOk (outcome-from m l f e) ∙ ap (λ x. isOk (outcome-as x (f .a) (f .v) m)) k ∙ activity-taken (f .a) (f .v) m;
-      kind = sym (o .kind-is) ∙ ap kind-number k;
-      not-ignored = ap (λ n. bit n (m .power .table 0x07)) (sym (o .a-is)) ∙ heard;
-    }, in-state)
+    let o = of-line l f e in (
+      record {
+        taken = ap isOk (outcome-from m l f e) ∙ ap (λ x. isOk (outcome-as x (f .a) (f .v) m)) k ∙ activity-taken (f .a) (f .v) m;
+        kind = sym (o .kind-is) ∙ ap kind-number k;
+        not-ignored = ap (λ n. bit n (m .power .table 0x07)) (sym (o .a-is)) ∙ heard;
+      },
+      in-state,
+    )
 
 violated-kind : (k : Kind) (a v : ℕ) (m : Machine) (r : Refusal) → outcome-as k a v m ≡ Err r → is-violation r ≡ true → k ≡ kind.CpuWrite
 violated-kind kind.Reset a v m r e h = impossible (cc)

@@ -72,7 +72,7 @@ loss-as k a v m s p before down h volatile =
     elim (is-cpu-write k) [
       | inl e ↦
           absurd (both-ways (powered (m .power) (socket-number s))
-            (sym (cpu-powered a v m s) ∙ subst (λ (x : Kind). powered (done-as x a v m .power) (socket-number s) ≡ false) e down) before)
+          (sym (cpu-powered a v m s) ∙ subst (λ (x : Kind). powered (done-as x a v m .power) (socket-number s) ≡ false) e down) before)
       | inr n ↦
           lost k a v m s p n
           (and-from (powered (m .power) (socket-number s)) (not (powered (done-as k a v m .power) (socket-number s))) before (not-from-false (powered (done-as k a v m .power) (socket-number s)) down))
@@ -104,8 +104,8 @@ keep-as k a v m s p no-write no-loss =
           no-write
       | inr n ↦
           kept k a v m s p n (λ down h volatile.
-            let q = and-parts (powered (m .power) (socket-number s)) (not (powered (done-as k a v m .power) (socket-number s))) down in
-            no-loss (q .0) (not-true (powered (done-as k a v m .power) (socket-number s)) (q .1)) h volatile)
+          let q = and-parts (powered (m .power) (socket-number s)) (not (powered (done-as k a v m .power) (socket-number s))) down in
+          no-loss (q .0) (not-true (powered (done-as k a v m .power) (socket-number s)) (q .1)) h volatile)
     ]
 
 keep-if : (d : Result Frame Refusal) (m : Machine) (s : Socket) (p k a v : ℕ) → ((f : Frame) → d ≡ Ok f → Of-fields f k a v)

@@ -35,17 +35,17 @@ or-digit : (y z : ℕ) → y < 2 → z < 2 → eqb (bitOr y z) 1 ≡ (eqb z 1 ||
 or-digit y z h g =
     elim (two y h) [
       | inl e ↦ elim (two z g) [
-          | inl f ↦ ap (λ n. eqb (bitOr n z) 1) e ∙ ap (λ n. eqb (bitOr 0 n) 1) f ∙ sym (ap (λ n. eqb n 1 || eqb y 1) f ∙ ap (λ n. eqb 0 1 || eqb n 1) e)
-          | inr f ↦ ap (λ n. eqb (bitOr n z) 1) e ∙ ap (λ n. eqb (bitOr 0 n) 1) f ∙ sym (ap (λ n. eqb n 1 || eqb y 1) f ∙ ap (λ n. eqb 1 1 || eqb n 1) e)
-        ]
+        | inl f ↦ ap (λ n. eqb (bitOr n z) 1) e ∙ ap (λ n. eqb (bitOr 0 n) 1) f ∙ sym (ap (λ n. eqb n 1 || eqb y 1) f ∙ ap (λ n. eqb 0 1 || eqb n 1) e)
+        | inr f ↦ ap (λ n. eqb (bitOr n z) 1) e ∙ ap (λ n. eqb (bitOr 0 n) 1) f ∙ sym (ap (λ n. eqb n 1 || eqb y 1) f ∙ ap (λ n. eqb 1 1 || eqb n 1) e)
+      ]
       | inr e ↦ elim (two z g) [
-          | inl f ↦ ap (λ n. eqb (bitOr n z) 1) e ∙ ap (λ n. eqb (bitOr 1 n) 1) f ∙ sym (ap (λ n. eqb n 1 || eqb y 1) f ∙ ap (λ n. eqb 0 1 || eqb n 1) e)
-          | inr f ↦ ap (λ n. eqb (bitOr n z) 1) e ∙ ap (λ n. eqb (bitOr 1 n) 1) f ∙ sym (ap (λ n. eqb n 1 || eqb y 1) f ∙ ap (λ n. eqb 1 1 || eqb n 1) e)
-        ]
+        | inl f ↦ ap (λ n. eqb (bitOr n z) 1) e ∙ ap (λ n. eqb (bitOr 1 n) 1) f ∙ sym (ap (λ n. eqb n 1 || eqb y 1) f ∙ ap (λ n. eqb 0 1 || eqb n 1) e)
+        | inr f ↦ ap (λ n. eqb (bitOr n z) 1) e ∙ ap (λ n. eqb (bitOr 1 n) 1) f ∙ sym (ap (λ n. eqb n 1 || eqb y 1) f ∙ ap (λ n. eqb 1 1 || eqb n 1) e)
+      ]
     ]
   where
     two : (n : ℕ) → n < 2 → (n ≡ 0) ⊎ (n ≡ 1)
-    two n h = elim (cases-eq n 0) [ | inl e ↦ inl e | inr d ↦ inr (omega arith) ]
+    two n h = elim (cases-eq n 0) [ inl e ↦ inl e | inr d ↦ inr (omega arith) ]
 
 pub bit-or : (j x b : ℕ) → bit j (bitOr x b) ≡ (bit j b || bit j x)
 bit-or j x b =

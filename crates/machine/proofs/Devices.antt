@@ -197,5 +197,5 @@ kept k a v m s p n none =
     let down = fell (outputs (m .power)) (outputs (after .power)) (socket-number s) in
     ap (λ (x : Meaning). x .byte p) (settled-device (outputs (m .power)) after s)
     ∙ cond-both down (faded (device-of after s)) (device-of after s) (λ (x : Meaning). x .byte p ≡ device-of m s .byte p)
-      (λ e. ap (λ (x : Meaning). faded x .byte p) (devices-as k a v m s n) ∙ faded-kept (device-of m s) p (none e))
-      (λ e. ap (λ (x : Meaning). x .byte p) (devices-as k a v m s n))
+    (λ e. ap (λ (x : Meaning). faded x .byte p) (devices-as k a v m s n) ∙ faded-kept (device-of m s) p (none e))
+    (λ e. ap (λ (x : Meaning). x .byte p) (devices-as k a v m s n))

@@ -219,8 +219,8 @@ wakes-to first new l ls (by-ring r) =
     let some : 0 < ring-count u = omega arith in
     ap (λ e. wakes-by e u) (r .rises .0)
     ∙ and-from (not (u .ring) && ltb 0 (ring-count u)) (leb (ring-count u) (u .edges + 1))
-      (and-from (not (u .ring)) (ltb 0 (ring-count u)) (not-from-false (u .ring) level-low) (lt-ltb 0 (ring-count u) some))
-      (le-leb (ring-count u) (u .edges + 1) (omega arith))
+    (and-from (not (u .ring)) (ltb 0 (ring-count u)) (not-from-false (u .ring) level-low) (lt-ltb 0 (ring-count u) some))
+    (le-leb (ring-count u) (u .edges + 1) (omega arith))
 wakes-to first new l ls (by-alarm is on) = ap (λ e. wakes-by e (after first ls .power)) is ∙ on
 
 on-only : (b : Bool) (s : State) → asleep s ≡ true → cond b On s ≡ On → b ≡ true

@@ -2,8 +2,10 @@ use mathlib.Core.Path.{_≡_, sym, ap, _∙_}
 use mathlib.Core.List.{List, _++_}
 use Prim.Native.Nat.{ℕ, _+_, _-_}
 use native.Mathlib.Omega.{arith}
+use borrow.Author.Needs.{needs}
 use lib.ListN.{take, drop, length-take}
 use Rattle.std.proofs.shelf.Lists.{append-nil}
+use Rattle.machine.proofs.Laws.{all-lawful}
 use Rattle.link.specs.Stream.{said}
 use Rattle.link.proofs.Steps.{goes-turn, rest-more}
 use Rattle.link.proofs.link.Link.receive.Needs as need
@@ -50,3 +52,12 @@ loop-at-again g c =
             ∙ ap (λ (n : ℕ). drop n (c .args .out .now)) (sym (w .written-is)),
       )
     ]
+
+pub returns : need.returns
+returns g c = record {
+  read = search needs;
+  within = search needs;
+  received = search needs;
+  rest = search needs;
+  laws = λ ram rom card-a card-b before s. all-lawful ram rom card-a card-b _;
+}

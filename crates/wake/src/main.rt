@@ -1,5 +1,6 @@
-// A watch timer's level table in RAM, over a Suspend that the telephone and the button end within one clock sample.
-// A peak is clipped where it reaches the level of its channel; a clipped peak says nothing of the balance.
+// A watch timer's level table in RAM, over a Suspend that the telephone and the button end within one clock sample,
+// and over one that the alarm ends. A peak is clipped where it reaches the level of its channel; a clipped peak says
+// nothing of the balance.
 use device::Empty;
 use device::EmptyDevice;
 use device::Ram;
@@ -20,134 +21,126 @@ const PEAKS: [u8; 4] = [0xD0, 0xC0, 0xF0, 0xE6];
 // Where the table stands in the processor's memory.
 const TABLE: u32 = 0x00100;
 
-// What one action hands in: the frame's kind and fields, and why.
+// What ends Suspend.
 #[derive(Clone, Copy)]
-struct Action<'a> {
+enum Waker {
+    RingAndPress,
+    Alarm,
+}
+
+// What is handed in: a frame's kind and its fields.
+#[derive(Clone, Copy)]
+struct Frame {
     kind: u8,
     a: u32,
     v: u16,
-    why: &'a str,
+}
+
+impl Frame {
+    fn new(kind: u8, a: u32, v: u16) -> Frame {
+        Frame { kind, a, v }
+    }
 }
 
 fn main(rt: LibcRuntime) -> Result<(), AnyError> {
-    rt.report(both(&rt))
+    rt.report(tell_all(&rt))
 }
 
-fn both(rt: &LibcRuntime) -> Result<(), AnyError> {
+fn tell_all(rt: &LibcRuntime) -> Result<(), AnyError> {
     println!(rt, "With RAM powered in Suspend:")?;
-    tell(rt, 0x02)?;
+    tell(rt, 0x02, Waker::RingAndPress)?;
     println!(rt, "With RAM unpowered in Suspend:")?;
-    tell(rt, 0x00)
+    tell(rt, 0x00, Waker::RingAndPress)?;
+    println!(
+        rt,
+        "With RAM powered in Suspend, and only the alarm enabled:"
+    )?;
+    tell(rt, 0x02, Waker::Alarm)
 }
 
 // The whole story, with these power outputs in Suspend.
-fn tell(rt: &LibcRuntime, outputs: u16) -> Result<(), AnyError> {
+fn tell(rt: &LibcRuntime, outputs: u16, waker: Waker) -> Result<(), AnyError> {
     let mut bytes = vec![in rt.alloc(); 0u8; 16_384]?;
     let mut bench = Engine::new(Ram::new(bytes.as_mut_slice()), Empty, Empty, Empty);
     load(rt, &mut bench)?;
-    suspend(rt, &mut bench, outputs)?;
-    wake(rt, &mut bench)?;
+    suspend(rt, &mut bench, outputs, waker)?;
+    match waker {
+        Waker::RingAndPress => ring_and_press(rt, &mut bench)?,
+        Waker::Alarm => ring_and_alarm(rt, &mut bench)?,
+    }
     judge(rt, &mut bench)
 }
 
 fn load(rt: &LibcRuntime, bench: &mut Bench) -> Result<(), AnyError> {
-    act(
-        rt,
-        bench,
-        Action {
-            kind: 0x03,
-            a: 0,
-            v: 0x8000,
-            why: "map page 0 to RAM",
-        },
-    )?;
+    act(rt, bench, Frame::new(0x03, 0, 0x8000), "map page 0 to RAM")?;
     let mut at = TABLE;
     for level in LEVELS.iter() {
         act(
             rt,
             bench,
-            Action {
-                kind: 0x05,
-                a: at,
-                v: u16::from(*level),
-                why: "store a level",
-            },
+            Frame::new(0x05, at, u16::from(*level)),
+            "store a level",
         )?;
         at = at.wrapping_add(1);
     }
     Ok(())
 }
 
-fn suspend(rt: &LibcRuntime, bench: &mut Bench, outputs: u16) -> Result<(), AnyError> {
+fn suspend(
+    rt: &LibcRuntime,
+    bench: &mut Bench,
+    outputs: u16,
+    waker: Waker,
+) -> Result<(), AnyError> {
+    let wake = match waker {
+        Waker::RingAndPress => 0x01,
+        Waker::Alarm => 0x08,
+    };
     act(
         rt,
         bench,
-        Action {
-            kind: 0x01,
-            a: 0x0B,
-            v: outputs,
-            why: "choose the outputs in Suspend",
-        },
+        Frame::new(0x01, 0x06, wake),
+        "choose what may wake",
     )?;
     act(
         rt,
         bench,
-        Action {
-            kind: 0x10,
-            a: 0,
-            v: 0,
-            why: "a clock sample finds the button low",
-        },
+        Frame::new(0x01, 0x0B, outputs),
+        "choose the outputs in Suspend",
     )?;
     act(
         rt,
         bench,
-        Action {
-            kind: 0x10,
-            a: 0,
-            v: 0,
-            why: "and another",
-        },
+        Frame::new(0x10, 0, 0),
+        "a clock sample finds the button low",
     )?;
-    act(
-        rt,
-        bench,
-        Action {
-            kind: 0x01,
-            a: 0x00,
-            v: 3,
-            why: "suspend",
-        },
-    )?;
+    act(rt, bench, Frame::new(0x10, 0, 0), "and another")?;
+    act(rt, bench, Frame::new(0x01, 0x00, 3), "suspend")?;
     Ok(())
 }
 
 // No clock sample comes between the two.
-fn wake(rt: &LibcRuntime, bench: &mut Bench) -> Result<(), AnyError> {
-    let rung = act(
+fn ring_and_press(rt: &LibcRuntime, bench: &mut Bench) -> Result<(), AnyError> {
+    let rung = act(rt, bench, Frame::new(0x13, 0, 1), "the telephone rings")?;
+    let pressed = act(rt, bench, Frame::new(0x12, 0, 1), "the button is pressed")?;
+    report(rt, rung.state == State::On && pressed.state == State::On)
+}
+
+// The ring count is 0, so the telephone does not wake.
+fn ring_and_alarm(rt: &LibcRuntime, bench: &mut Bench) -> Result<(), AnyError> {
+    let rung = act(rt, bench, Frame::new(0x13, 0, 1), "the telephone rings")?;
+    let alarmed = act(rt, bench, Frame::new(0x14, 0, 0), "the alarm goes off")?;
+    report(
         rt,
-        bench,
-        Action {
-            kind: 0x13,
-            a: 0,
-            v: 1,
-            why: "the telephone rings",
-        },
-    )?;
-    let pressed = act(
-        rt,
-        bench,
-        Action {
-            kind: 0x12,
-            a: 0,
-            v: 1,
-            why: "the button is pressed",
-        },
-    )?;
-    if rung.state == State::On && pressed.state == State::On {
+        rung.state == State::Suspend && alarmed.state == State::On,
+    )
+}
+
+fn report(rt: &LibcRuntime, expected: bool) -> Result<(), AnyError> {
+    if expected {
         println!(rt, "awake, and never in Off on the way")?;
     } else {
-        println!(rt, "NOT AWAKE")?;
+        println!(rt, "NOT AS EXPECTED")?;
     }
     Ok(())
 }
@@ -169,16 +162,7 @@ fn judge_channel(
     level: u16,
     peak: u16,
 ) -> Result<(), AnyError> {
-    let read = act(
-        rt,
-        bench,
-        Action {
-            kind: 0x06,
-            a: at,
-            v: 0,
-            why: "read a level back",
-        },
-    )?.value();
+    let read = act(rt, bench, Frame::new(0x06, at, 0), "read a level back")?.value();
     let now = verdict(peak, read);
     let told = compared(peak >= read, peak >= level);
     println!(rt, "peak {peak:02X}h at level {read:02X}h: {now}, {told}")?;
@@ -202,10 +186,10 @@ fn compared(now: bool, before: bool) -> &'static str {
 }
 
 // Hands one frame in, and prints it with its answer and why it was handed in.
-fn act(rt: &LibcRuntime, bench: &mut Bench, action: Action) -> Result<Answer, AnyError> {
-    let Action { kind, a, v, why } = action;
-    let frame = format!(rt.alloc(), "{kind:02X}{a:06X}{v:04X}")?;
-    let answer = bench.frame(frame.as_bytes());
+fn act(rt: &LibcRuntime, bench: &mut Bench, frame: Frame, why: &str) -> Result<Answer, AnyError> {
+    let Frame { kind, a, v } = frame;
+    let line = format!(rt.alloc(), "{kind:02X}{a:06X}{v:04X}")?;
+    let answer = bench.frame(line.as_bytes());
     let number = answer.number();
     let value = answer.value();
     let state = answer.state.number();
@@ -213,7 +197,7 @@ fn act(rt: &LibcRuntime, bench: &mut Bench, action: Action) -> Result<Answer, An
     let interrupt = u8::from(answer.interrupt);
     println!(
         rt,
-        "{frame} {number:02X}{value:04X}{state:02X}{outputs:02X}{interrupt:02X}  {why}"
+        "{line} {number:02X}{value:04X}{state:02X}{outputs:02X}{interrupt:02X}  {why}"
     )?;
     Ok(answer)
 }

@@ -6,6 +6,7 @@ use std::io;
 #[derive(Debug, Drop)]
 pub enum Fault {
     Usage,
+    Arguments(io::Error),
     Input(io::Error),
     Output(io::Error),
     Memory,
@@ -30,6 +31,7 @@ pub impl fmt::Display for Fault as FaultDisplay {
                 f,
                 "no argument is known but --help; frames come on standard input"
             ),
+            Fault::Arguments(e) => write!(f, "cannot read the arguments: {e}"),
             Fault::Input(e) => write!(f, "cannot read standard input: {e}"),
             Fault::Output(e) => write!(f, "cannot write standard output: {e}"),
             Fault::Memory => write!(f, "out of memory"),

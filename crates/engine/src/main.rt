@@ -14,6 +14,7 @@ use fault::FaultDebug;
 use fault::FaultDisplay;
 use fault::FaultFromAlloc;
 use fault::FaultFromIo;
+use machine::ANSWER_LENGTH;
 use std::env;
 use std::io::ErrorKind;
 use std::io::Read;
@@ -23,7 +24,7 @@ use std::io::Write;
 const BLOCK: usize = 65536;
 
 // Room for the answers of a block, should each of its bytes end a line.
-const ROOM: usize = 13 * BLOCK;
+const ROOM: usize = ANSWER_LENGTH * BLOCK;
 
 fn main(rt: LibcRuntime) -> Result<(), Fault> {
     let done = start(&rt);
@@ -34,7 +35,10 @@ fn main(rt: LibcRuntime) -> Result<(), Fault> {
 }
 
 fn start(rt: &LibcRuntime) -> Result<(), Fault> {
-    let mut words = env::args(rt)?;
+    let mut words = match env::args(rt) {
+        Ok(words) => words,
+        Err(e) => return Err(Fault::Arguments(e)),
+    };
     let _ = words.next();
     match words.next() {
         None => run(rt),

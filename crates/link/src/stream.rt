@@ -111,7 +111,8 @@ impl<R: Device, O: Device, CA: Device, CB: Device> Link<R, O, CA, CB> {
     pub fn into_engine(self) -> Engine<R, O, CA, CB>
         ensures { λ e. ⌜ e ≡ self .engine ⌝ }
     {
-        self.engine
+        let engine = self.engine;
+        engine
     }
 
     // Takes a whole frame, as nearly always, or a byte.

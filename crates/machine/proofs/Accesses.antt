@@ -28,7 +28,7 @@ use Rattle.power.specs.Registers.{bit}
 use Rattle.power.specs.Causes.{raised, noted, violated}
 use Rattle.power.specs.declared.cause.Cause.the-variants as cause
 use Rattle.machine.specs.Lines.{Line, is-frame, kind-field, a-field, v-field}
-use Rattle.machine.specs.Kinds.{kind-number, kind-of}
+use Rattle.machine.specs.Kinds.{kind-of}
 use Rattle.machine.specs.Decode.{Frame, listed, decoded}
 use Rattle.machine.specs.Machine.{Machine, with-power, with-words, device, with-device, line, powered, fell, settled}
 use Rattle.machine.specs.Step.{outcome, outcome-as, outcome-if, step, step-if, done-as, no-value, awake-only}
@@ -39,7 +39,7 @@ use Rattle.machine.specs.Bytes.{device-of, Leads, Read-law, Well-formed, Allow
 use Rattle.machine.specs.declared.kind.Kind.{Kind}
 use Rattle.machine.specs.declared.kind.Kind.the-variants as kind
 use Rattle.machine.proofs.Press.{impossible}
-use Rattle.machine.proofs.Frames.{Of-fields, of-line}
+use Rattle.machine.proofs.Frames.{kind-number, Of-fields, of-line}
 use Rattle.machine.proofs.Rows.{judged, judged-is}
 
 -- the device of a socket by its number

@@ -27,7 +27,6 @@ use Rattle.power.specs.declared.cause.Cause.the-variants as is
 use Rattle.power.specs.declared.state.State.{State}
 use Rattle.power.specs.declared.state.State.the-variants.{On, Doze, Sleep, Suspend, Off}
 use Rattle.machine.specs.Lines.{Line, kind-field, a-field, v-field}
-use Rattle.machine.specs.Kinds.{kind-number}
 use Rattle.machine.specs.Decode.{Frame, decoded}
 use Rattle.machine.specs.Machine.{Machine, with-power, powered}
 use Rattle.machine.specs.Access as access
@@ -42,7 +41,7 @@ use Rattle.machine.specs.declared.kind.Kind.{Kind}
 use Rattle.machine.specs.declared.kind.Kind.the-variants as kind
 use Rattle.machine.proofs.Press.{impossible, settled-low, low-settled}
 use Rattle.machine.proofs.Signals.{cond-same, Inputs, inputs-after, inputs-agree, level-agrees, signal-is}
-use Rattle.machine.proofs.Frames.{Of-fields, of-line}
+use Rattle.machine.proofs.Frames.{kind-number, Of-fields, of-line}
 use Rattle.machine.proofs.Accesses.{noted-by, refused-done, violation, violated-awake, awake-violation, plain-refusal, no-value-err, write-plain, read-plain, asleep-only, decoded-plain}
 use Rattle.machine.proofs.Causes.{hits, tick-cause, ext-cause, battery-cause, activity-cause, activity-cause-in, violation-cause, tick-bits, ext-bits, battery-bits, activity-bits, ring-bits, alarm-bits, write-bits, read-bits, violation-bits}
 use Rattle.machine.proofs.Wake.{New}

@@ -17,7 +17,6 @@ use Rattle.mapper.specs.declared.word.Socket.{Socket}
 use Rattle.power.specs.Power.{outputs}
 use Rattle.power.specs.Registers.{bit}
 use Rattle.machine.specs.Lines.{Line, kind-field, a-field, v-field}
-use Rattle.machine.specs.Kinds.{kind-number}
 use Rattle.machine.specs.Decode.{Frame, decoded}
 use Rattle.machine.specs.Machine.{Machine, line, powered, fell, settled}
 use Rattle.machine.specs.Step.{outcome, outcome-as, outcome-if, step, step-if, done-as, after}
@@ -25,7 +24,7 @@ use Rattle.machine.specs.Bytes.{device-of, Leads, Writes, Loses, Sets, by-writ
 use Rattle.machine.specs.declared.kind.Kind.{Kind}
 use Rattle.machine.specs.declared.kind.Kind.the-variants as kind
 use Rattle.machine.proofs.Press.{impossible}
-use Rattle.machine.proofs.Frames.{Of-fields, of-line}
+use Rattle.machine.proofs.Frames.{kind-number, Of-fields, of-line}
 use Rattle.machine.proofs.Devices.{is-cpu-write, cpu-settled, cpu-sets, cpu-leaves, cpu-outputs, lost, kept, Shape, shape, shape-if}
 
 -- the kind of number 05

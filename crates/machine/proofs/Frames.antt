@@ -12,11 +12,28 @@ use Rattle.std.specs.declared.result.Result.the-variants.{Ok, Err}
 use Rattle.terms.specs.declared.refusal.Refusal.{Refusal}
 use Rattle.terms.specs.declared.refusal.Refusal.the-variants as refusal
 use Rattle.machine.specs.Lines.{Line, is-frame, kind-field, a-field, v-field}
-use Rattle.machine.specs.Kinds.{kind-number, kind-of}
+use Rattle.machine.specs.Kinds.{kind-of}
 use Rattle.machine.specs.Decode.{Frame, checked, listed, decoded}
 use Rattle.machine.specs.declared.kind.Kind.{Kind}
 use Rattle.machine.specs.declared.kind.Kind.the-variants as kind
 use Rattle.machine.proofs.Press.{impossible}
+
+-- the number of each kind
+abbrev pub kind-number : Kind → ℕ
+kind-number kind.Reset = 0x00
+kind-number kind.RegisterWrite = 0x01
+kind-number kind.RegisterRead = 0x02
+kind-number kind.PageWrite = 0x03
+kind-number kind.PageRead = 0x04
+kind-number kind.CpuWrite = 0x05
+kind-number kind.CpuRead = 0x06
+kind-number kind.Tick = 0x10
+kind-number kind.Activity = 0x11
+kind-number kind.Ext = 0x12
+kind-number kind.Ring = 0x13
+kind-number kind.Alarm = 0x14
+kind-number kind.Battery = 0x15
+kind-number kind.Ac = 0x16
 
 -- a frame was made of these fields
 pub record Of-fields (f : Frame) (k a v : ℕ) : Type 0 where

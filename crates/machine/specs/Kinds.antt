@@ -7,22 +7,6 @@ use Rattle.std.specs.declared.option.Option.the-variants.{Some, None}
 use Rattle.machine.specs.declared.kind.Kind.{Kind}
 use Rattle.machine.specs.declared.kind.Kind.the-variants as kind
 
-abbrev pub kind-number : Kind → ℕ
-kind-number kind.Reset = 0x00
-kind-number kind.RegisterWrite = 0x01
-kind-number kind.RegisterRead = 0x02
-kind-number kind.PageWrite = 0x03
-kind-number kind.PageRead = 0x04
-kind-number kind.CpuWrite = 0x05
-kind-number kind.CpuRead = 0x06
-kind-number kind.Tick = 0x10
-kind-number kind.Activity = 0x11
-kind-number kind.Ext = 0x12
-kind-number kind.Ring = 0x13
-kind-number kind.Alarm = 0x14
-kind-number kind.Battery = 0x15
-kind-number kind.Ac = 0x16
-
 -- the kind of a number, if it is listed
 abbrev pub kind-of : ℕ → Option Kind
 kind-of n =

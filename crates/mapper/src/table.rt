@@ -45,7 +45,8 @@ impl PageTable {
     pub fn store(&mut self, page: CpuPage, word: u16)
         ensures { λ _. ⌜ words (now (self .exit)) ≡ stored (words (now (self .entry))) (page .number) word ⌝ }
     {
-        self.words[page.number() as usize] = word;
+        let at = page.number() as usize;
+        self.words[at] = word;
     }
 
     // Where the address leads, if its page is mapped.

@@ -6,7 +6,7 @@ use Rattle.power.specs.States.{asleep, outputs-in, idle-in}
 use Rattle.power.specs.declared.state.State.{State}
 use Rattle.power.specs.declared.state.State.the-variants.{On}
 
--- `table` holds what registers 01h to 0Eh store; `low` counts the low samples of EXT, `edges` the ring edges;
+-- `table` holds what the registers store, of which 00h and 0Fh are not shown; `low` counts the low samples of EXT, `edges` the ring edges;
 -- the last four are the remembered levels
 pub record Power : Type 0 where
   pub state : State

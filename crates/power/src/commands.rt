@@ -1,4 +1,4 @@
-// Making and resetting the unit, its outputs, and its registers.
+// Making the unit, its registers, states and causes.
 ghost use mathlib.Core.Path.{_≡_};
 ghost use mathlib.Core.Bool.{true, false, cond};
 ghost use Prim.Native.Nat.{_<_};
@@ -6,8 +6,8 @@ ghost use lib.Dec.{eqb};
 ghost use lib.ListN.{getD};
 ghost use Rattle.power.specs.States.{asleep};
 ghost use Rattle.power.specs.Registers.{index, bit};
-ghost use Rattle.power.specs.Power.{outputs, cause, put, reloaded, entered, reset};
-ghost use Rattle.power.specs.Causes.{interrupts, raised, violated};
+ghost use Rattle.power.specs.Power.{cause, put, reloaded, entered, reset};
+ghost use Rattle.power.specs.Causes.{raised, violated};
 ghost use Rattle.power.specs.Commands.{read-answer, read-done, write-answer, write-done};
 ghost use Rattle.power.specs.View.{view};
 use super::Cause;
@@ -37,32 +37,6 @@ impl PowerUnit {
             battery: false,
             ac: false,
         }
-    }
-
-    pub fn state(&self) -> State
-        ensures { λ r. ⌜ r ≡ view (now (self .entry)) .state ⌝ }
-    {
-        self.state
-    }
-
-    // The power lines: D0 the LCD, D1 RAM, D2 ROM, D3 both cards, D4 to D7 general.
-    pub fn outputs(&self) -> u8
-        ensures { λ r. ⌜ r ≡ outputs (view (now (self .entry))) ⌝ }
-    {
-        match self.state {
-            State::On => self.get(Register::OnOutputs),
-            State::Doze => self.get(Register::DozeOutputs),
-            State::Sleep => self.get(Register::SleepOutputs),
-            State::Suspend => self.get(Register::SuspendOutputs),
-            State::Off => 0,
-        }
-    }
-
-    // Whether a cause is pending.
-    pub fn interrupts(&self) -> bool
-        ensures { λ r. ⌜ r ≡ interrupts (view (now (self .entry))) ⌝ }
-    {
-        self.get(Register::Cause) != 0
     }
 
     // What a frame reads of the register. CAUSE is cleared by it.

@@ -3,6 +3,7 @@ mod cause;
 mod commands;
 mod event;
 mod inputs;
+mod outputs;
 mod register;
 mod state;
 mod unit;

@@ -55,7 +55,8 @@ impl CpuAddress {
     pub fn offset(self) -> u32
         ensures { λ r. ⌜ r ≡ self .bits % page-size ⌝ }
     {
-        self.bits % super::PAGE_SIZE
+        let bits = self.bits;
+        bits % super::PAGE_SIZE
     }
 }
 

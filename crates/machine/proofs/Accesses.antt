@@ -39,7 +39,7 @@ use Rattle.machine.specs.Bytes.{device-of, Leads, Read-law, Well-formed, Allow
 use Rattle.machine.specs.declared.kind.Kind.{Kind}
 use Rattle.machine.specs.declared.kind.Kind.the-variants as kind
 use Rattle.machine.proofs.Press.{impossible}
-use Rattle.machine.proofs.Frames.{kind-number, Of-fields, of-line}
+use Rattle.machine.proofs.Frames.{same-kind, Of-fields, of-line}
 use Rattle.machine.proofs.Rows.{judged, judged-is}
 
 -- the device of a socket by its number
@@ -71,22 +71,6 @@ socket-of : (m : Machine) (a : ℕ) → Is-socket (socket-at m a)
 socket-of m a = is-socket (socket-at m a) (mod-below (m .words (a / page-size) / 0x1000) 4 (omega arith))
 
 -- a taken CPU read
-six : (k : Kind) → kind-number k ≡ 0x06 → k ≡ kind.CpuRead
-six kind.Reset e = impossible (omega arith)
-six kind.RegisterWrite e = impossible (omega arith)
-six kind.RegisterRead e = impossible (omega arith)
-six kind.PageWrite e = impossible (omega arith)
-six kind.PageRead e = impossible (omega arith)
-six kind.CpuWrite e = impossible (omega arith)
-six kind.CpuRead e = refl
-six kind.Tick e = impossible (omega arith)
-six kind.Activity e = impossible (omega arith)
-six kind.Ext e = impossible (omega arith)
-six kind.Ring e = impossible (omega arith)
-six kind.Alarm e = impossible (omega arith)
-six kind.Battery e = impossible (omega arith)
-six kind.Ac e = impossible (omega arith)
-
 read-number : (m : Machine) (a v value : ℕ) → outcome-as kind.CpuRead a v m ≡ Ok value → split (m .words (a / page-size)) .mapped ≡ true
     → value ≡ device m (socket-at m a) .byte (place-at m a)
 read-number m a v value e mapped = grind (arith, tells)
@@ -102,7 +86,7 @@ read-if : (d : Result Frame Refusal) (m : Machine) (k a v value : ℕ) → ((f :
 read-if (Err r) m k a v value of e is-six s p leads = impossible (cc)
 read-if (Ok f) m k a v value of e is-six s p leads =
     let o = of f refl in
-    read-as (f .kind) m (f .a) (f .v) value (six (f .kind) (o .kind-is ∙ is-six)) e s p (subst (λ (x : ℕ). Leads m x s p) (sym (o .a-is)) leads)
+    read-as (f .kind) m (f .a) (f .v) value (same-kind (f .kind) kind.CpuRead (o .kind-is ∙ is-six)) e s p (subst (λ (x : ℕ). Leads m x s p) (sym (o .a-is)) leads)
 
 pub read-law : (m : Machine) (l : Line) (value : ℕ) → outcome m l ≡ Ok value → Read-law m l value
 unfolding outcome

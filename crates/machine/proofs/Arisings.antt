@@ -41,7 +41,7 @@ use Rattle.machine.specs.declared.kind.Kind.{Kind}
 use Rattle.machine.specs.declared.kind.Kind.the-variants as kind
 use Rattle.machine.proofs.Press.{impossible, settled-low, low-settled}
 use Rattle.machine.proofs.Signals.{cond-same, Inputs, inputs-after, inputs-agree, level-agrees, signal-is}
-use Rattle.machine.proofs.Frames.{kind-number, Of-fields, of-line}
+use Rattle.machine.proofs.Frames.{kind-number, same-kind, Of-fields, of-line}
 use Rattle.machine.proofs.Accesses.{noted-by, refused-done, violation, violated-awake, awake-violation, plain-refusal, no-value-err, write-plain, read-plain, asleep-only, decoded-plain}
 use Rattle.machine.proofs.Causes.{hits, tick-cause, ext-cause, battery-cause, activity-cause, activity-cause-in, violation-cause, tick-bits, ext-bits, battery-bits, activity-bits, ring-bits, alarm-bits, write-bits, read-bits, violation-bits}
 use Rattle.machine.proofs.Wake.{New}
@@ -244,38 +244,40 @@ to-frame is.Activity k a v m (ek, heard, inl (state, clear)) =
 to-frame is.Activity k a v m (ek, heard, inr (state, clear)) =
     let t : hits (position is.Activity) (activity-cause a (m .power)) ≡ true = grind (arith, tells) in ap (λ x. hits (position is.Activity) (arisen-as x a v m)) ek ∙ t
 
--- which kind gives a signal
-reset-only : (k : Kind) (v : ℕ) → signal-as k v ≡ sig.reset → k ≡ kind.Reset
-reset-only kind.Reset v e = refl
-reset-only kind.RegisterWrite v e = impossible (cc)
-reset-only kind.RegisterRead v e = impossible (cc)
-reset-only kind.PageWrite v e = impossible (cc)
-reset-only kind.PageRead v e = impossible (cc)
-reset-only kind.CpuWrite v e = impossible (cc)
-reset-only kind.CpuRead v e = impossible (cc)
-reset-only kind.Tick v e = impossible (cc)
-reset-only kind.Activity v e = impossible (cc)
-reset-only kind.Ext v e = impossible (cc)
-reset-only kind.Ring v e = impossible (cc)
-reset-only kind.Alarm v e = impossible (cc)
-reset-only kind.Battery v e = impossible (cc)
-reset-only kind.Ac v e = impossible (cc)
+-- the number of the kind that gives a signal
+abbrev number-giving : Signal → ℕ
+number-giving sig.reset = 0x00
+number-giving sig.tick = 0x10
+number-giving (sig.gives sig.ext v) = 0x12
+number-giving (sig.gives sig.ring v) = 0x13
+number-giving sig.alarm = 0x14
+number-giving (sig.gives sig.battery v) = 0x15
+number-giving (sig.gives sig.ac v) = 0x16
+number-giving sig.other = 0xFF
 
-tick-only : (k : Kind) (v : ℕ) → signal-as k v ≡ sig.tick → k ≡ kind.Tick
-tick-only kind.Reset v e = impossible (cc)
-tick-only kind.RegisterWrite v e = impossible (cc)
-tick-only kind.RegisterRead v e = impossible (cc)
-tick-only kind.PageWrite v e = impossible (cc)
-tick-only kind.PageRead v e = impossible (cc)
-tick-only kind.CpuWrite v e = impossible (cc)
-tick-only kind.CpuRead v e = impossible (cc)
-tick-only kind.Tick v e = refl
-tick-only kind.Activity v e = impossible (cc)
-tick-only kind.Ext v e = impossible (cc)
-tick-only kind.Ring v e = impossible (cc)
-tick-only kind.Alarm v e = impossible (cc)
-tick-only kind.Battery v e = impossible (cc)
-tick-only kind.Ac v e = impossible (cc)
+gives-number : (k : Kind) (v : ℕ) → (signal-as k v ≡ sig.other) ⊎ (kind-number k ≡ number-giving (signal-as k v))
+gives-number kind.Reset v = inr refl
+gives-number kind.RegisterWrite v = inl refl
+gives-number kind.RegisterRead v = inl refl
+gives-number kind.PageWrite v = inl refl
+gives-number kind.PageRead v = inl refl
+gives-number kind.CpuWrite v = inl refl
+gives-number kind.CpuRead v = inl refl
+gives-number kind.Tick v = inr refl
+gives-number kind.Activity v = inl refl
+gives-number kind.Ext v = inr refl
+gives-number kind.Ring v = inr refl
+gives-number kind.Alarm v = inr refl
+gives-number kind.Battery v = inr refl
+gives-number kind.Ac v = inr refl
+
+-- which kind gives a signal
+giver : (k j : Kind) (v : ℕ) (e : Signal) → signal-as k v ≡ e → number-giving e ≡ kind-number j → (e ≡ sig.other → ⊥) → k ≡ j
+giver k j v e given number some =
+    elim (gives-number k v) [
+      | inl none ↦ absurd (some (sym given ∙ none))
+      | inr n ↦ same-kind k j (n ∙ ap number-giving given ∙ number)
+    ]
 
 rise-only : (k : Kind) (v : ℕ) (i : Input) → signal-as k v ≡ sig.gives i true → high v ≡ true
 rise-only kind.Reset v i e = impossible (cc)
@@ -292,70 +294,6 @@ rise-only kind.Ring v i e = cc
 rise-only kind.Alarm v i e = impossible (cc)
 rise-only kind.Battery v i e = cc
 rise-only kind.Ac v i e = cc
-
-ext-only : (k : Kind) (v : ℕ) → signal-as k v ≡ sig.gives sig.ext true → k ≡ kind.Ext
-ext-only kind.Reset v e = impossible (cc)
-ext-only kind.RegisterWrite v e = impossible (cc)
-ext-only kind.RegisterRead v e = impossible (cc)
-ext-only kind.PageWrite v e = impossible (cc)
-ext-only kind.PageRead v e = impossible (cc)
-ext-only kind.CpuWrite v e = impossible (cc)
-ext-only kind.CpuRead v e = impossible (cc)
-ext-only kind.Tick v e = impossible (cc)
-ext-only kind.Activity v e = impossible (cc)
-ext-only kind.Ext v e = refl
-ext-only kind.Ring v e = impossible (cc)
-ext-only kind.Alarm v e = impossible (cc)
-ext-only kind.Battery v e = impossible (cc)
-ext-only kind.Ac v e = impossible (cc)
-
-battery-only : (k : Kind) (v : ℕ) → signal-as k v ≡ sig.gives sig.battery true → k ≡ kind.Battery
-battery-only kind.Reset v e = impossible (cc)
-battery-only kind.RegisterWrite v e = impossible (cc)
-battery-only kind.RegisterRead v e = impossible (cc)
-battery-only kind.PageWrite v e = impossible (cc)
-battery-only kind.PageRead v e = impossible (cc)
-battery-only kind.CpuWrite v e = impossible (cc)
-battery-only kind.CpuRead v e = impossible (cc)
-battery-only kind.Tick v e = impossible (cc)
-battery-only kind.Activity v e = impossible (cc)
-battery-only kind.Ext v e = impossible (cc)
-battery-only kind.Ring v e = impossible (cc)
-battery-only kind.Alarm v e = impossible (cc)
-battery-only kind.Battery v e = refl
-battery-only kind.Ac v e = impossible (cc)
-
-two : (k : Kind) → kind-number k ≡ 0x02 → k ≡ kind.RegisterRead
-two kind.Reset e = impossible (omega arith)
-two kind.RegisterWrite e = impossible (omega arith)
-two kind.RegisterRead e = refl
-two kind.PageWrite e = impossible (omega arith)
-two kind.PageRead e = impossible (omega arith)
-two kind.CpuWrite e = impossible (omega arith)
-two kind.CpuRead e = impossible (omega arith)
-two kind.Tick e = impossible (omega arith)
-two kind.Activity e = impossible (omega arith)
-two kind.Ext e = impossible (omega arith)
-two kind.Ring e = impossible (omega arith)
-two kind.Alarm e = impossible (omega arith)
-two kind.Battery e = impossible (omega arith)
-two kind.Ac e = impossible (omega arith)
-
-seventeen : (k : Kind) → kind-number k ≡ 0x11 → k ≡ kind.Activity
-seventeen kind.Reset e = impossible (omega arith)
-seventeen kind.RegisterWrite e = impossible (omega arith)
-seventeen kind.RegisterRead e = impossible (omega arith)
-seventeen kind.PageWrite e = impossible (omega arith)
-seventeen kind.PageRead e = impossible (omega arith)
-seventeen kind.CpuWrite e = impossible (omega arith)
-seventeen kind.CpuRead e = impossible (omega arith)
-seventeen kind.Tick e = impossible (omega arith)
-seventeen kind.Activity e = refl
-seventeen kind.Ext e = impossible (omega arith)
-seventeen kind.Ring e = impossible (omega arith)
-seventeen kind.Alarm e = impossible (omega arith)
-seventeen kind.Battery e = impossible (omega arith)
-seventeen kind.Ac e = impossible (omega arith)
 
 abbrev arisen-if : Result Frame Refusal → Machine → Option Cause
 arisen-if (Ok f) m = arisen-as (f .kind) (f .a) (f .v) m
@@ -426,10 +364,10 @@ clears-from m l (Ok f) e h =
 clears-to : (m : Machine) (l : Line) (d : Result Frame Refusal) → decoded l ≡ d → Clears m l → clears-if d m ≡ true
 clears-to m l (Err r) e (inl s) = impossible (let t = sym (signal-is m l ∙ ap signal-if e) ∙ s in cc)
 clears-to m l (Err r) e (inr c) = impossible (let t = sym (ap isOk (outcome-bad m l r e)) ∙ c .taken in cc)
-clears-to m l (Ok f) e (inl s) = ap (λ k. clears-as k (f .a) m) (reset-only (f .kind) (f .v) (sym (signal-from m l f e) ∙ s))
+clears-to m l (Ok f) e (inl s) = ap (λ k. clears-as k (f .a) m) (giver (f .kind) kind.Reset (f .v) sig.reset (sym (signal-from m l f e) ∙ s) refl (λ x. impossible (cc)))
 clears-to m l (Ok f) e (inr c) =
     let o = of-line l f e in
-    let k = two (f .kind) (o .kind-is ∙ c .kind) in
+    let k = same-kind (f .kind) kind.RegisterRead (o .kind-is ∙ c .kind) in
     let awake = read-awake (f .a) (f .v) m (ap (λ x. isOk (outcome-as x (f .a) (f .v) m)) (sym k) ∙ sym (ap isOk (outcome-from m l f e)) ∙ c .taken) in
     ap (λ x. clears-as x (f .a) m) k
     ∙ and-from (eqb (f .a) 0x05) (not (asleep-at m)) (eq-eqb (f .a) 0x05 (o .a-is ∙ c .index)) (not-from-false (asleep-at m) awake)
@@ -526,18 +464,18 @@ violated-kind kind.Ac a v m r e h = impossible (cc)
 -- and the other way
 line-to : (first : Machine) → New first → (l : Line) (ls : List Line) (f : Frame) (c : Cause) → decoded l ≡ Ok f → Arises c first l ls → By-frame c (f .kind) (f .a) (f .v) (after first ls)
 line-to first new l ls f is.Doze e (out, low-ac, clear) =
-    (tick-only (f .kind) (f .v) (sym (signal-from (after first ls) l f e) ∙ out .ticks), out .state, out .last, remembers first new ls .ac-is ∙ low-ac, clear)
+    (giver (f .kind) kind.Tick (f .v) sig.tick (sym (signal-from (after first ls) l f e) ∙ out .ticks) refl (λ x. impossible (cc)), out .state, out .last, remembers first new ls .ac-is ∙ low-ac, clear)
 line-to first new l ls f is.Sleep e (out, clear) =
-    (tick-only (f .kind) (f .v) (sym (signal-from (after first ls) l f e) ∙ out .ticks), out .state, out .last, clear)
+    (giver (f .kind) kind.Tick (f .v) sig.tick (sym (signal-from (after first ls) l f e) ∙ out .ticks) refl (λ x. impossible (cc)), out .state, out .last, clear)
 line-to first new l ls f is.Suspend e (out, clear) =
-    (tick-only (f .kind) (f .v) (sym (signal-from (after first ls) l f e) ∙ out .ticks), out .state, out .last, clear)
+    (giver (f .kind) kind.Tick (f .v) sig.tick (sym (signal-from (after first ls) l f e) ∙ out .ticks) refl (λ x. impossible (cc)), out .state, out .last, clear)
 line-to first new l ls f is.Ext e (press, awake, clear) =
     let r = remembers first new ls in
     let given = sym (signal-from (after first ls) l f e) ∙ press .0 .0 in
-    (ext-only (f .kind) (f .v) given, rise-only (f .kind) (f .v) sig.ext given, r .ext-is ∙ press .0 .1, r .low-is ∙ settled-low (signals first ls) (press .1), awake, clear)
+    (giver (f .kind) kind.Ext (f .v) (sig.gives sig.ext true) given refl (λ x. impossible (cc)), rise-only (f .kind) (f .v) sig.ext given, r .ext-is ∙ press .0 .1, r .low-is ∙ settled-low (signals first ls) (press .1), awake, clear)
 line-to first new l ls f is.Battery e (rise, awake, clear) =
     let given = sym (signal-from (after first ls) l f e) ∙ rise .0 in
-    (battery-only (f .kind) (f .v) given, rise-only (f .kind) (f .v) sig.battery given, remembers first new ls .battery-is ∙ rise .1, awake, clear)
+    (giver (f .kind) kind.Battery (f .v) (sig.gives sig.battery true) given refl (λ x. impossible (cc)), rise-only (f .kind) (f .v) sig.battery given, remembers first new ls .battery-is ∙ rise .1, awake, clear)
 line-to first new l ls f is.Violation e (inl o, clear) =
     let m = after first ls in
     let x = sym (outcome-from m l f e) ∙ o in
@@ -549,7 +487,7 @@ line-to first new l ls f is.Violation e (inr o, clear) =
 line-to first new l ls f is.Activity e (active, in-state) =
     let m = after first ls in
     let o = of-line l f e in
-    (seventeen (f .kind) (o .kind-is ∙ active .kind), ap (λ n. bit n (m .power .table 0x07)) (o .a-is) ∙ active .not-ignored, in-state)
+    (same-kind (f .kind) kind.Activity (o .kind-is ∙ active .kind), ap (λ n. bit n (m .power .table 0x07)) (o .a-is) ∙ active .not-ignored, in-state)
 
 -- a line that is no well-formed frame gives no cause
 bad-line : (first : Machine) (l : Line) (ls : List Line) (r : Refusal) (c : Cause) → decoded l ≡ Err r → Arises c first l ls → _≡_ {A = ℕ} 0 1
@@ -680,7 +618,7 @@ cause-read-if : (d : Result Frame Refusal) (m : Machine) (k a v value : ℕ) →
 cause-read-if (Err r) m k a v value of e kt at = impossible (cc)
 cause-read-if (Ok f) m k a v value of e kt at =
     let o = of f refl in
-    let kind-is = two (f .kind) (o .kind-is ∙ kt) in
+    let kind-is = same-kind (f .kind) kind.RegisterRead (o .kind-is ∙ kt) in
     cause-read (f .a) (f .v) value m (o .a-is ∙ at) (subst (λ (x : Kind). outcome-as x (f .a) (f .v) m ≡ Ok value) kind-is e)
 
 pub cause-law : (first : Machine) → New first → (ls : List Line) (l : Line) (value : ℕ) → outcome (after first ls) l ≡ Ok value → Reads-cause (after first ls) l → Cause-law first ls value

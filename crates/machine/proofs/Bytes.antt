@@ -24,25 +24,8 @@ use Rattle.machine.specs.Bytes.{device-of, Leads, Writes, Loses, Sets, by-writ
 use Rattle.machine.specs.declared.kind.Kind.{Kind}
 use Rattle.machine.specs.declared.kind.Kind.the-variants as kind
 use Rattle.machine.proofs.Press.{impossible}
-use Rattle.machine.proofs.Frames.{kind-number, Of-fields, of-line}
+use Rattle.machine.proofs.Frames.{kind-number, same-kind, Of-fields, of-line}
 use Rattle.machine.proofs.Devices.{is-cpu-write, cpu-settled, cpu-sets, cpu-leaves, cpu-outputs, lost, kept, Shape, shape, shape-if}
-
--- the kind of number 05
-pub five : (k : Kind) → kind-number k ≡ 0x05 → k ≡ kind.CpuWrite
-five kind.Reset e = impossible (omega arith)
-five kind.RegisterWrite e = impossible (omega arith)
-five kind.RegisterRead e = impossible (omega arith)
-five kind.PageWrite e = impossible (omega arith)
-five kind.PageRead e = impossible (omega arith)
-five kind.CpuWrite e = refl
-five kind.CpuRead e = impossible (omega arith)
-five kind.Tick e = impossible (omega arith)
-five kind.Activity e = impossible (omega arith)
-five kind.Ext e = impossible (omega arith)
-five kind.Ring e = impossible (omega arith)
-five kind.Alarm e = impossible (omega arith)
-five kind.Battery e = impossible (omega arith)
-five kind.Ac e = impossible (omega arith)
 
 write-as : (k : Kind) (a v : ℕ) (m : Machine) (s : Socket) (p : ℕ) → k ≡ kind.CpuWrite → isOk (outcome-as k a v m) ≡ true → Leads m a s p
     → device-of (settled (outputs (m .power)) (done-as k a v m)) s .byte p ≡ v
@@ -55,7 +38,7 @@ write-if : (d : Result Frame Refusal) (m : Machine) (s : Socket) (p k a v : ℕ)
 write-if (Err r) m s p k a v of ok five-it leads = impossible (cc)
 write-if (Ok f) m s p k a v of ok five-it leads =
     let o = of f refl in
-    write-as (f .kind) (f .a) (f .v) m s p (five (f .kind) (o .kind-is ∙ five-it)) ok (subst (λ (x : ℕ). Leads m x s p) (sym (o .a-is)) leads) ∙ o .v-is
+    write-as (f .kind) (f .a) (f .v) m s p (same-kind (f .kind) kind.CpuWrite (o .kind-is ∙ five-it)) ok (subst (λ (x : ℕ). Leads m x s p) (sym (o .a-is)) leads) ∙ o .v-is
 
 set-write : (m : Machine) (l : Line) (s : Socket) (p b : ℕ) → Writes m l s p b → device-of (step m l) s .byte p ≡ b
 unfolding step outcome

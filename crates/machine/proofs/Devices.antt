@@ -7,7 +7,7 @@ use Rattle.terms.specs.Limits.{page-size}
 use native.Mathlib.Omega.{arith}
 use lib.Dec.{eqb, leb, ltb}
 use Rattle.std.proofs.shelf.Ways.{tells}
-use Rattle.std.proofs.shelf.Tests.{cond-true, cond-false, cond-both}
+use Rattle.std.proofs.shelf.Tests.{cases-eq, cond-true, cond-false, cond-both}
 use Rattle.std.specs.Results.{isOk}
 use Rattle.std.specs.declared.result.Result.{Result}
 use Rattle.std.specs.declared.result.Result.the-variants.{Ok, Err}
@@ -28,7 +28,7 @@ use Rattle.machine.specs.Refusals.{socket-at, place-at}
 use Rattle.machine.specs.Bytes.{device-of, Leads}
 use Rattle.machine.specs.declared.kind.Kind.{Kind}
 use Rattle.machine.specs.declared.kind.Kind.the-variants as kind
-use Rattle.machine.proofs.Press.{impossible}
+use Rattle.machine.proofs.Frames.{kind-number, same-kind}
 use Rattle.machine.proofs.Signals.{cond-same}
 
 -- a power loss, socket by socket
@@ -128,20 +128,11 @@ cpu-shape a v m socket.CardB = shape-card-b a v m
 
 -- a kind is that of CPU writes or it is not
 pub is-cpu-write : (k : Kind) → (k ≡ kind.CpuWrite) ⊎ (k ≡ kind.CpuWrite → ⊥)
-is-cpu-write kind.Reset = inr (λ e. impossible (cc))
-is-cpu-write kind.RegisterWrite = inr (λ e. impossible (cc))
-is-cpu-write kind.RegisterRead = inr (λ e. impossible (cc))
-is-cpu-write kind.PageWrite = inr (λ e. impossible (cc))
-is-cpu-write kind.PageRead = inr (λ e. impossible (cc))
-is-cpu-write kind.CpuWrite = inl refl
-is-cpu-write kind.CpuRead = inr (λ e. impossible (cc))
-is-cpu-write kind.Tick = inr (λ e. impossible (cc))
-is-cpu-write kind.Activity = inr (λ e. impossible (cc))
-is-cpu-write kind.Ext = inr (λ e. impossible (cc))
-is-cpu-write kind.Ring = inr (λ e. impossible (cc))
-is-cpu-write kind.Alarm = inr (λ e. impossible (cc))
-is-cpu-write kind.Battery = inr (λ e. impossible (cc))
-is-cpu-write kind.Ac = inr (λ e. impossible (cc))
+is-cpu-write k =
+    elim (cases-eq (kind-number k) 0x05) [
+      | inl e ↦ inl (same-kind k kind.CpuWrite e)
+      | inr n ↦ inr (λ e. n (ap kind-number e))
+    ]
 
 shape-as : (k : Kind) (a v : ℕ) (m : Machine) (s : Socket) → shape (device-of (done-as k a v m) s) ≡ shape (device-of m s)
 shape-as k a v m s =

@@ -35,6 +35,26 @@ kind-number kind.Alarm = 0x14
 kind-number kind.Battery = 0x15
 kind-number kind.Ac = 0x16
 
+-- a kind is known by its number
+listed-kind : (k : Kind) → kind-of (kind-number k) ≡ Some k
+listed-kind kind.Reset = refl
+listed-kind kind.RegisterWrite = refl
+listed-kind kind.RegisterRead = refl
+listed-kind kind.PageWrite = refl
+listed-kind kind.PageRead = refl
+listed-kind kind.CpuWrite = refl
+listed-kind kind.CpuRead = refl
+listed-kind kind.Tick = refl
+listed-kind kind.Activity = refl
+listed-kind kind.Ext = refl
+listed-kind kind.Ring = refl
+listed-kind kind.Alarm = refl
+listed-kind kind.Battery = refl
+listed-kind kind.Ac = refl
+
+pub same-kind : (k j : Kind) → kind-number k ≡ kind-number j → k ≡ j
+same-kind k j e = let both : Some k ≡ Some j = sym (listed-kind k) ∙ ap kind-of e ∙ listed-kind j in cc
+
 -- a frame was made of these fields
 pub record Of-fields (f : Frame) (k a v : ℕ) : Type 0 where
   pub kind-is : kind-number (f .kind) ≡ k

@@ -33,9 +33,9 @@ use Rattle.machine.specs.Decode.{Frame, listed, decoded}
 use Rattle.machine.specs.Machine.{Machine, with-power, with-words, device, with-device, line, powered, fell, settled}
 use Rattle.machine.specs.Step.{outcome, outcome-as, outcome-if, step, step-if, done-as, no-value, awake-only}
 use Rattle.machine.specs.Access as access
-use Rattle.machine.specs.Access.{write-target, written-target, cpu-read, cpu-write, cpu-written}
+use Rattle.machine.specs.Access.{is-violation, write-target, written-target, cpu-read, cpu-write, cpu-written}
 use Rattle.machine.specs.Refusals.{socket-at, place-at, refused-with, unused-not-zero, value-above, index-above}
-use Rattle.machine.specs.Bytes.{device-of, Leads, Read-law, Well-formed, Allowed, Write-law, is-violation, Refused-law}
+use Rattle.machine.specs.Bytes.{device-of, Leads, Read-law, Well-formed, Allowed, Write-law, Refused-law}
 use Rattle.machine.specs.declared.kind.Kind.{Kind}
 use Rattle.machine.specs.declared.kind.Kind.the-variants as kind
 use Rattle.machine.proofs.Press.{impossible}
@@ -212,34 +212,10 @@ abbrev pub noted-by : Refusal → ℕ → Machine → Machine
 noted-by r a m = access.noted (Err r) a m
 
 pub plain-refusal : (r : Refusal) (a : ℕ) (m : Machine) → is-violation r ≡ false → noted-by r a m ≡ m
-plain-refusal refusal.NotAFrame a m e = refl
-plain-refusal refusal.UnknownKind a m e = refl
-plain-refusal refusal.UnusedFieldNotZero a m e = refl
-plain-refusal refusal.ValueTooLarge a m e = refl
-plain-refusal refusal.IndexTooLarge a m e = refl
-plain-refusal refusal.Asleep a m e = refl
-plain-refusal refusal.RegisterNotWritable a m e = refl
-plain-refusal refusal.PageNotMapped a m e = refl
-plain-refusal refusal.PageReadOnly a m e = impossible (cc)
-plain-refusal refusal.SocketUnpowered a m e = refl
-plain-refusal refusal.NoSuchPlace a m e = refl
-plain-refusal refusal.WriteProtected a m e = impossible (cc)
-plain-refusal refusal.CausePending a m e = refl
+plain-refusal r a m e = cond-false (is-violation r) (with-power (violated a (m .power)) m) m e
 
 pub violation : (r : Refusal) (a : ℕ) (m : Machine) → is-violation r ≡ true → noted-by r a m ≡ with-power (violated a (m .power)) m
-violation refusal.NotAFrame a m e = impossible (cc)
-violation refusal.UnknownKind a m e = impossible (cc)
-violation refusal.UnusedFieldNotZero a m e = impossible (cc)
-violation refusal.ValueTooLarge a m e = impossible (cc)
-violation refusal.IndexTooLarge a m e = impossible (cc)
-violation refusal.Asleep a m e = impossible (cc)
-violation refusal.RegisterNotWritable a m e = impossible (cc)
-violation refusal.PageNotMapped a m e = impossible (cc)
-violation refusal.PageReadOnly a m e = refl
-violation refusal.SocketUnpowered a m e = impossible (cc)
-violation refusal.NoSuchPlace a m e = impossible (cc)
-violation refusal.WriteProtected a m e = refl
-violation refusal.CausePending a m e = impossible (cc)
+violation r a m e = cond-true (is-violation r) (with-power (violated a (m .power)) m) m e
 
 pub no-value-err : (x : Result (Unit {0}) Refusal) (r : Refusal) → no-value x ≡ Err r → x ≡ Err r
 no-value-err (Ok u) r e = impossible (cc)

@@ -30,9 +30,8 @@ use Rattle.machine.specs.Lines.{Line, kind-field, a-field, v-field}
 use Rattle.machine.specs.Decode.{Frame, decoded}
 use Rattle.machine.specs.Machine.{Machine, with-power, powered}
 use Rattle.machine.specs.Access as access
-use Rattle.machine.specs.Access.{cpu-write, cpu-written, written-target}
+use Rattle.machine.specs.Access.{is-violation, cpu-write, cpu-written, written-target}
 use Rattle.machine.specs.Step.{outcome, outcome-as, outcome-if, step, step-if, done-as, after, high, awake-only}
-use Rattle.machine.specs.Bytes.{is-violation}
 use Rattle.machine.specs.Signals as sig
 use Rattle.machine.specs.Signals.{Input, Signal, signal-as, signal-if, signal, signals, level}
 use Rattle.machine.specs.Waking.{asleep-at}

@@ -1,5 +1,5 @@
 -- What the processor's reads and writes of memory are answered, and what they do.
-use mathlib.Core.Bool.{Bool, cond, not, _&&_}
+use mathlib.Core.Bool.{Bool, true, false, cond, not, _&&_}
 use Prim.Native.Nat.{ℕ}
 use Rattle.std.specs.declared.option.Option.{Option}
 use Rattle.std.specs.declared.option.Option.the-variants.{Some, None}
@@ -43,22 +43,26 @@ written-target m None v = m
 written-target m (Some t) v =
     cond (not (t .readonly) && powered (m .power) (t .socket)) (with-device (t .socket) (written (device m (t .socket)) (t .place) v) m) m
 
+-- the two refusals that are noted
+abbrev pub is-violation : Refusal → Bool
+is-violation refusal.NotAFrame = false
+is-violation refusal.UnknownKind = false
+is-violation refusal.UnusedFieldNotZero = false
+is-violation refusal.ValueTooLarge = false
+is-violation refusal.IndexTooLarge = false
+is-violation refusal.Asleep = false
+is-violation refusal.RegisterNotWritable = false
+is-violation refusal.PageNotMapped = false
+is-violation refusal.PageReadOnly = true
+is-violation refusal.SocketUnpowered = false
+is-violation refusal.NoSuchPlace = false
+is-violation refusal.WriteProtected = true
+is-violation refusal.CausePending = false
+
 -- a write that the page or the place forbids is noted
 abbrev pub noted : Result (Unit {0}) Refusal → ℕ → Machine → Machine
 noted (Ok x) a m = m
-noted (Err refusal.PageReadOnly) a m = with-power (violated a (m .power)) m
-noted (Err refusal.WriteProtected) a m = with-power (violated a (m .power)) m
-noted (Err refusal.NotAFrame) a m = m
-noted (Err refusal.UnknownKind) a m = m
-noted (Err refusal.UnusedFieldNotZero) a m = m
-noted (Err refusal.ValueTooLarge) a m = m
-noted (Err refusal.IndexTooLarge) a m = m
-noted (Err refusal.Asleep) a m = m
-noted (Err refusal.RegisterNotWritable) a m = m
-noted (Err refusal.PageNotMapped) a m = m
-noted (Err refusal.SocketUnpowered) a m = m
-noted (Err refusal.NoSuchPlace) a m = m
-noted (Err refusal.CausePending) a m = m
+noted (Err r) a m = cond (is-violation r) (with-power (violated a (m .power)) m) m
 
 -- the machine after the processor's write of v at an address
 abbrev pub cpu-written : Machine → ℕ → ℕ → Machine

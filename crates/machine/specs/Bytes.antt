@@ -7,7 +7,6 @@ use Rattle.std.specs.Results.{isOk}
 use Rattle.std.specs.declared.result.Result.the-variants.{Ok, Err}
 use Rattle.terms.specs.Limits.{page-size}
 use Rattle.terms.specs.declared.refusal.Refusal.{Refusal}
-use Rattle.terms.specs.declared.refusal.Refusal.the-variants as refusal
 use Rattle.device.specs.Meaning.{Meaning}
 use Rattle.mapper.specs.Words.{split}
 use Rattle.mapper.specs.Translation.{socket-number}
@@ -18,6 +17,7 @@ use Rattle.power.specs.Causes.{raised, noted}
 use Rattle.power.specs.declared.cause.Cause.the-variants as cause
 use Rattle.machine.specs.Lines.{Line, is-frame, kind-field, a-field, v-field}
 use Rattle.machine.specs.Machine.{Machine, with-power, powered}
+use Rattle.machine.specs.Access.{is-violation}
 use Rattle.machine.specs.Step.{outcome, step, after}
 use Rattle.machine.specs.Refusals.{socket-at, place-at, unused-not-zero, value-above, index-above}
 
@@ -102,22 +102,6 @@ pub record Allowed (m : Machine) (a : ℕ) (s : Socket) : Type 0 where
 pub record Write-law (m : Machine) (l : Line) : Type 0 where
   pub only : kind-field l ≡ cpu-write-kind → Well-formed l → isOk (outcome m l) ≡ true → (s : Socket) × Allowed m (a-field l) s
   pub always : kind-field l ≡ cpu-write-kind → Well-formed l → (s : Socket) → Allowed m (a-field l) s → isOk (outcome m l) ≡ true
-
--- the two refusals that are noted
-abbrev pub is-violation : Refusal → Bool
-is-violation refusal.NotAFrame = false
-is-violation refusal.UnknownKind = false
-is-violation refusal.UnusedFieldNotZero = false
-is-violation refusal.ValueTooLarge = false
-is-violation refusal.IndexTooLarge = false
-is-violation refusal.Asleep = false
-is-violation refusal.RegisterNotWritable = false
-is-violation refusal.PageNotMapped = false
-is-violation refusal.PageReadOnly = true
-is-violation refusal.SocketUnpowered = false
-is-violation refusal.NoSuchPlace = false
-is-violation refusal.WriteProtected = true
-is-violation refusal.CausePending = false
 
 -- a line that is turned away leaves the whole machine equal, but for a violation that is noted: its address, and its cause unless that is masked
 pub record Refused-law (m : Machine) (l : Line) (end : Machine) : Type 0 where

@@ -2,6 +2,7 @@
 ghost use mathlib.Core.Path.{_≡_};
 ghost use Prim.Native.Nat.{ℕ, _%_, _<_};
 ghost use mathlib.Core.Bool.{false};
+ghost use denote.Ref.{now};
 ghost use lib.ListN.{length, getD, replicate};
 ghost use Rattle.device.specs.Guard.{flag-count, flag};
 ghost use Rattle.device.specs.declared.guard.SegmentSize.the-variants.{Places2048};
@@ -65,6 +66,7 @@ impl Memory {
 
 // A card of which the first 2,048 places are write-protected.
 fn protected(card: BackedRam) -> Guard<BackedRam>
+    ensures below { λ r. ⌜ now (r .device .bytes) ≡ now (card .entry .bytes) ⌝ }
     ensures segments { λ r. ⌜ r .segments ≡ Places2048 ⌝ }
     ensures flags { λ r. ⌜ r .flags .protected ≡ flag (replicate flag-count false) 0 ⌝ }
 {

@@ -1,25 +1,23 @@
 // The engine over any four devices.
+ghost use mathlib.Core.Bool.{cond};
 ghost use mathlib.Core.Path.{_≡_};
 ghost use denote.Ref.{now};
-ghost use Rattle.device.specs.Meaning.{read-at, write-at, written};
-ghost use Rattle.mapper.specs.Translation.{socket-number};
-ghost use Rattle.power.specs.Power.{outputs};
-ghost use Rattle.power.specs.Registers.{bit};
-ghost use Rattle.machine.specs.Machine.{fresh, device, with-device, line, powered, fell, settled};
-ghost use Rattle.machine.specs.Access.{cpu-read, cpu-write, written-target};
-ghost use Rattle.mapper.specs.Translation.{leads};
-ghost use Rattle.machine.specs.Step.{outcome-as, done-as, outcome-of, done-by, outcome-if, step-if, answered, step, answer};
-ghost use Rattle.machine.specs.declared.kind.Kind.the-variants as kind;
-ghost use Rattle.std.specs.declared.result.Result.the-variants.{Ok};
-ghost use Rattle.mapper.specs.View.{words};
-ghost use Rattle.power.specs.View.{view as power-view};
-ghost use Rattle.power.specs.Registers.{index};
-ghost use Rattle.machine.specs.View.{view, frame-of, ok-map};
-ghost use Rattle.machine.specs.Lines.{is-frame};
-ghost use Rattle.machine.specs.Laws.{Laws};
 ghost use Rattle.std.specs.Options.{Cases as BySome};
-ghost use mathlib.Core.Bool.{cond};
 ghost use Rattle.std.specs.declared.option.Option.the-variants.{Some, None};
+ghost use Rattle.std.specs.declared.result.Result.the-variants.{Ok};
+ghost use Rattle.device.specs.Meaning.{read-at, write-at, written};
+ghost use Rattle.mapper.specs.Translation.{leads, socket-number};
+ghost use Rattle.mapper.specs.View.{words};
+ghost use Rattle.power.specs.Power.{outputs};
+ghost use Rattle.power.specs.Registers.{bit, index};
+ghost use Rattle.power.specs.View.{view as power-view};
+ghost use Rattle.machine.specs.Access.{cpu-read, cpu-write, written-target};
+ghost use Rattle.machine.specs.Laws.{Laws};
+ghost use Rattle.machine.specs.Lines.{is-frame};
+ghost use Rattle.machine.specs.Machine.{fresh, device, with-device, line, powered, fell, settled};
+ghost use Rattle.machine.specs.Step.{outcome-as, done-as, outcome-of, done-by, outcome-if, step-if, answered, step, answer};
+ghost use Rattle.machine.specs.View.{view, frame-of, ok-map};
+ghost use Rattle.machine.specs.declared.kind.Kind.the-variants as kind;
 use super::Answer;
 use super::Command;
 use super::decode::cut;
@@ -38,6 +36,7 @@ use terms::Place;
 use terms::Refusal;
 use terms::RefusalFromFault;
 
+// R is what stands in the RAM socket, O in the ROM socket, CA and CB in the two card sockets.
 #[derive(Drop)]
 pub struct Engine<R, O, CA, CB> {
     power: PowerUnit,
@@ -63,6 +62,7 @@ impl<R: Device, O: Device, CA: Device, CB: Device> Engine<R, O, CA, CB> {
         }
     }
 
+    // Answers one line, whatever its length and bytes.
     pub fn frame(&mut self, line: &[u8]) -> Answer
         ensures answer { λ r. ⌜ r ≡ answer (view (R·Device .meaning) (O·Device .meaning) (CA·Device .meaning) (CB·Device .meaning) (now (self .entry))) (now (line .entry)) ⌝ }
         ensures after { λ _. ⌜ view (R·Device .meaning) (O·Device .meaning) (CA·Device .meaning) (CB·Device .meaning) (now (self .exit)) ≡ step (view (R·Device .meaning) (O·Device .meaning) (CA·Device .meaning) (CB·Device .meaning) (now (self .entry))) (now (line .entry)) ⌝ }
@@ -85,7 +85,7 @@ impl<R: Device, O: Device, CA: Device, CB: Device> Engine<R, O, CA, CB> {
 
     // Gives the devices back, as the frames have left them.
     pub fn into_devices(self) -> (R, O, CA, CB)
-        ensures { λ r. ⌜ (R·Device .meaning (r .0) ≡ (view (R·Device .meaning) (O·Device .meaning) (CA·Device .meaning) (CB·Device .meaning) self) .ram) × (O·Device .meaning (r .1) ≡ (view (R·Device .meaning) (O·Device .meaning) (CA·Device .meaning) (CB·Device .meaning) self) .rom) × (CA·Device .meaning (r .2) ≡ (view (R·Device .meaning) (O·Device .meaning) (CA·Device .meaning) (CB·Device .meaning) self) .card-a) × (CB·Device .meaning (r .3) ≡ (view (R·Device .meaning) (O·Device .meaning) (CA·Device .meaning) (CB·Device .meaning) self) .card-b) ⌝ }
+        ensures { λ r. ⌜ (r .0 ≡ self .ram) × (r .1 ≡ self .rom) × (r .2 ≡ self .«card_a») × (r .3 ≡ self .«card_b») ⌝ }
     {
         let Engine {
             power,

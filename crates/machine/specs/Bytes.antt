@@ -82,7 +82,7 @@ pub record Same-shape (first end : Machine) (s : Socket) : Type 0 where
 abbrev pub Read-law : Machine → Line → ℕ → Type 0
 Read-law m l value = kind-field l ≡ cpu-read-kind → (s : Socket) (p : ℕ) → Leads m (a-field l) s p → value ≡ device-of m s .byte p
 
--- none of the rows on the form of a frame fits
+-- none of the rows on the form of a frame fits; that its kind is listed is said where the kind is named
 pub record Well-formed (l : Line) : Type 0 where
   pub frame : is-frame l ≡ true
   pub unused-zero : unused-not-zero (kind-field l) (a-field l) (v-field l) ≡ false

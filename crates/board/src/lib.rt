@@ -1,4 +1,6 @@
 // The board that the program runs on: what stands in its four sockets.
+#![tactic(auto)]
+
 mod memory;
 
 pub use memory::{BoardLink, Memory, assemble, burn};

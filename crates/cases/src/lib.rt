@@ -1,4 +1,6 @@
 // Cases worked out by hand from the rules, held to the engine on the board that the program runs on.
+#![tactic(auto)]
+
 #[cfg(test)]
 mod board;
 #[cfg(test)]

@@ -1,5 +1,7 @@
 // Compares the engine with a second implementation of the rules, on many lists of lines over many boards: the answer
 // to each line, and every byte of every chip at the end. Then the engine is broken on purpose, which must be noticed.
+#![tactic(auto)]
+
 mod boards;
 mod composer;
 mod contest;

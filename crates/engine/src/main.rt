@@ -1,4 +1,6 @@
 // Answers event frames from standard input on standard output, on a fixed board.
+#![tactic(auto)]
+
 mod fault;
 
 use board::Memory;

@@ -1,4 +1,6 @@
 // The worked session and cases of the rules, gone through by one proof that the checker computes.
+#![tactic(auto)]
+
 ghost use Rattle.std.specs.Prelude.{◌≡◌, true, length};
 ghost use Rattle.examples.specs.Worked.{all_hold, examples};
 

@@ -1,4 +1,6 @@
 // A line taken apart to the command that it is, and an answer spelled out.
+#![tactic(auto)]
+
 mod answer;
 mod command;
 mod kind;

@@ -1,4 +1,6 @@
 // Lines out of chunks of bytes, each answered by the engine.
+#![tactic(auto)]
+
 mod link;
 mod stream;
 

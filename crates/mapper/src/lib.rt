@@ -1,4 +1,6 @@
 // The memory mapper: page words, and where a CPU address leads.
+#![tactic(auto)]
+
 mod table;
 mod word;
 

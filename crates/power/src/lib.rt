@@ -1,4 +1,6 @@
 // The power unit: registers, states, inputs and counters. It knows no page and no device.
+#![tactic(auto)]
+
 mod cause;
 mod commands;
 mod inputs;

@@ -1,4 +1,6 @@
 // RAM, and RAM with a battery, over the caller's bytes.
+#![tactic(auto)]
+
 mod backed;
 mod ram;
 mod writing;

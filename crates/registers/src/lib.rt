@@ -1,4 +1,6 @@
 // The states, the registers and the events of the power unit, by name.
+#![tactic(auto)]
+
 mod event;
 mod register;
 mod state;

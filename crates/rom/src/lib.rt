@@ -1,4 +1,6 @@
 // Devices that no write reaches: ROM over the caller's bytes, and an empty socket.
+#![tactic(auto)]
+
 mod empty;
 mod rom;
 

@@ -1,4 +1,6 @@
 // The words that every layer shares: addresses, places, the limit on places, and why a frame is refused.
+#![tactic(auto)]
+
 mod address;
 mod place;
 mod refusal;

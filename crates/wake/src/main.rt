@@ -1,6 +1,8 @@
 // A watch timer's level table in RAM, over a Suspend that the telephone and the button end within one clock sample,
 // and over one that the alarm ends. A peak is clipped where it reaches the level of its channel; a clipped peak says
 // nothing of the balance.
+#![tactic(auto)]
+
 use frames::Answer;
 use machine::Engine;
 use ram::Ram;

@@ -1,7 +1,6 @@
 -- What the program's own types stand for: a command is a frame, and the fields are those of a line.
 use Rattle.std.specs.Prelude.{ℕ, Bool, cond, Ok, Err, Result}
 use Rattle.registers.specs.Registers.{index}
-use Rattle.registers.specs.declared.event.Event.{Event}
 use Rattle.registers.specs.declared.event.Event.TheVariants as event
 use Rattle.frames.specs.Lines.{Line, kind_field, a_field, v_field}
 use Rattle.frames.specs.Decode.{Frame}

@@ -1,5 +1,5 @@
 -- What a guard makes of the device below it.
-use Rattle.std.specs.Prelude.{ℕ, ◌/◌, Bool, true, false, cond, not, ◌&&◌, List, set, nat_lt, slice_index_or, slice_set}
+use Rattle.std.specs.Prelude.{ℕ, ◌/◌, Bool, true, false, cond, not, ◌&&◌, List, nat_lt, slice_index_or, slice_set}
 use Rattle.device.specs.Meaning.{Meaning}
 use Rattle.guard.specs.declared.guard.SegmentSize.{SegmentSize}
 use Rattle.guard.specs.declared.guard.SegmentSize.TheVariants.{Places2048, Places4096}

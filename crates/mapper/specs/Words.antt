@@ -1,5 +1,5 @@
 -- A page word: D15 mapped, D14 read-only, D13-D12 the socket, D11-D0 the device page.
-use Rattle.std.specs.Prelude.{ℕ, ◌+◌, ◌*◌, ◌/◌, ◌%◌, Bool, cond, ◌&&◌, Ok, Err, Result, ◌==◌, nat_lt}
+use Rattle.std.specs.Prelude.{ℕ, ◌+◌, ◌*◌, ◌/◌, ◌%◌, cond, ◌&&◌, Ok, Err, Result, ◌==◌, nat_lt}
 use Rattle.terms.specs.Limits.{device_pages}
 use Rattle.terms.specs.declared.refusal.Refusal.{Refusal}
 use Rattle.terms.specs.declared.refusal.Refusal.TheVariants as refusal

@@ -1,5 +1,5 @@
 -- What a pair makes of its two devices.
-use Rattle.std.specs.Prelude.{◌≡◌, ℕ, ◌*◌, ◌/◌, ◌%◌, ◌<◌, ◌≤◌, min, Bool, cond, Ok, Err, Result, ◌==◌}
+use Rattle.std.specs.Prelude.{◌≡◌, ℕ, ◌*◌, ◌/◌, ◌%◌, ◌<◌, ◌≤◌, min, cond, Ok, Err, Result, ◌==◌}
 use Rattle.device.specs.Sized.{sized, fitting}
 use Rattle.device.specs.Meaning.{Meaning}
 use Rattle.pair.specs.declared.pair.Chip.{Chip}

@@ -1,5 +1,5 @@
 -- What a tick or an input does in each state.
-use Rattle.std.specs.Prelude.{ℕ, ◌+◌, ◌-◌, ◌*◌, Bool, true, false, cond, not, ◌&&◌, ◌||◌, ◌==◌, nat_le, nat_lt}
+use Rattle.std.specs.Prelude.{ℕ, ◌+◌, ◌-◌, Bool, false, cond, not, ◌&&◌, ◌==◌, nat_le, nat_lt}
 use Rattle.registers.specs.Registers.{bit}
 use Rattle.registers.specs.States.{asleep}
 use Rattle.power.specs.Power.{Power, mask, ring_count, counting, reloaded, entered}

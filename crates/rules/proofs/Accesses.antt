@@ -1,9 +1,9 @@
 -- When the processor's reads and writes are taken, and what a refused line leaves.
-use Rattle.std.proofs.Common.{◌≡◌, ℕ, ◌/◌, ◌%◌, ◌<◌, ◌≤◌, Bool, true, false, cond, not, ◌&&◌, ◌||◌, eqb, ltb, leb, ◌⊎◌, is_ok, Some, None, Ok, Err, Option, Result, sym, refl, ap, ◌∙◌, subst, inl, inr, arith}
+use Rattle.std.proofs.Common.{◌≡◌, ℕ, ◌/◌, ◌<◌, Bool, true, false, cond, not, ◌&&◌, eqb, is_ok, Some, None, Ok, Err, Option, Result, sym, refl, ap, ◌∙◌, subst, inl, inr, arith}
 use mathlib.Core.Path.{fun_ext}
 use Rattle.std.proofs.lemmas.Bool.Decides.{nat_tests}
 use Rattle.std.proofs.lemmas.Nat.{mod_below}
-use Rattle.std.proofs.lemmas.Bool.{cases_eq, cond-true, cond-false, cond_both, cases_Bool, ltb-true, lt-ltb, and_right, both_ways}
+use Rattle.std.proofs.lemmas.Bool.{cases_eq, cond-true, cond-false, cond_both, cases_Bool, ltb-true, lt-ltb, both_ways}
 use Rattle.terms.specs.Limits.{page_size}
 use Rattle.terms.specs.declared.refusal.Refusal.{Refusal}
 use Rattle.terms.specs.declared.refusal.Refusal.TheVariants as refusal
@@ -21,12 +21,12 @@ use Rattle.power.specs.declared.cause.Cause.TheVariants as cause
 use Rattle.frames.specs.Lines.{Line, is_frame, kind_field, a_field, v_field}
 use Rattle.frames.specs.Kinds.{kind_of}
 use Rattle.frames.specs.Decode.{Frame, listed, decoded}
-use Rattle.rules.specs.Machine.{Machine, with_power, with_words, device, with_device, line, powered, fell, settled}
+use Rattle.rules.specs.Machine.{Machine, with_power, with_words, device, with_device, line, powered, settled}
 use Rattle.rules.specs.Step.{outcome, outcome_as, outcome_if, step, step_if, done_as, no_value, awake_only}
 use Rattle.rules.specs.Access as access
 use Rattle.rules.specs.Access.{is_violation, write_target, written_target, cpu_read, cpu_write, cpu_written}
 use Rattle.rules.specs.Refusals.{socket_at, place_at, refused_with, unused_not_zero, value_above, index_above}
-use Rattle.rules.specs.Bytes.{device_of, Leads, ReadLaw, WellFormed, Allowed, WriteLaw, RefusedLaw}
+use Rattle.rules.specs.Bytes.{device_of, Leads, ReadLaw, WriteLaw, RefusedLaw}
 use Rattle.frames.specs.declared.kind.Kind.{Kind}
 use Rattle.frames.specs.declared.kind.Kind.TheVariants as kind
 use Rattle.rules.proofs.Press.{impossible}

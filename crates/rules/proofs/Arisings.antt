@@ -1,5 +1,5 @@
 -- A bit of CAUSE is set exactly where its cause arose since CAUSE was cleared.
-use Rattle.std.proofs.Common.{◌≡◌, ℕ, ◌/◌, ◌%◌, ◌^◌, Bool, true, false, cond, not, ◌&&◌, ◌||◌, eqb, ltb, leb, ◌⊎◌, List, [], ◌∷◌, ◌++◌, is_ok, Some, None, Ok, Err, Option, Result, sym, refl, ap, ◌∙◌, subst, inl, inr, arith}
+use Rattle.std.proofs.Common.{◌≡◌, ℕ, ◌%◌, ◌^◌, Bool, true, false, cond, not, ◌&&◌, ◌||◌, eqb, ◌⊎◌, List, [], ◌∷◌, ◌++◌, is_ok, Some, None, Ok, Err, Option, Result, sym, refl, ap, ◌∙◌, subst, inl, inr, arith}
 use native.Mathlib.Nat.{zero-div}
 use Rattle.std.proofs.lemmas.Bool.Decides.{nat_tests}
 use Rattle.std.proofs.lemmas.Bool.{cases_Bool, both_ways, and_parts, and_from, not-true, not_from_false, eqb-true, eq-eqb, cond-true, cond-false, or_cases}
@@ -17,20 +17,20 @@ use Rattle.registers.specs.declared.state.State.{State}
 use Rattle.registers.specs.declared.state.State.TheVariants.{On, Doze, Sleep, Suspend, Off}
 use Rattle.frames.specs.Lines.{Line, kind_field, a_field, v_field}
 use Rattle.frames.specs.Decode.{Frame, decoded}
-use Rattle.rules.specs.Machine.{Machine, with_power, powered}
+use Rattle.rules.specs.Machine.{Machine, powered}
 use Rattle.rules.specs.Access as access
 use Rattle.rules.specs.Access.{is_violation, cpu_write, cpu_written, written_target}
-use Rattle.rules.specs.Step.{outcome, outcome_as, outcome_if, step, step_if, done_as, after, high, awake_only}
+use Rattle.rules.specs.Step.{outcome, outcome_as, outcome_if, step, step_if, done_as, after, high}
 use Rattle.rules.specs.Signals as sig
 use Rattle.rules.specs.Signals.{Input, Signal, signal_as, signal_if, signal, signals, level}
 use Rattle.rules.specs.Waking.{asleep_at}
-use Rattle.rules.specs.Arising.{RunsOut, Active, Arises, ReadsCause, Clears, Uncleared, Pending, CauseLaw}
+use Rattle.rules.specs.Arising.{Arises, ReadsCause, Clears, Uncleared, Pending, CauseLaw}
 use Rattle.frames.specs.declared.kind.Kind.{Kind}
 use Rattle.frames.specs.declared.kind.Kind.TheVariants as kind
 use Rattle.rules.proofs.Press.{impossible, settled_low, low_settled}
 use Rattle.rules.proofs.Signals.{cond_same, Inputs, inputs_after, inputs_agree, level_agrees, signal_is}
 use Rattle.rules.proofs.Frames.{kind_number, same_kind, OfFields, of_line}
-use Rattle.rules.proofs.Accesses.{noted_by, refused_done, violation, violated_awake, awake_violation, plain_refusal, no_value_err, write_plain, read_plain, asleep_only, decoded_plain}
+use Rattle.rules.proofs.Accesses.{refused_done, violation, violated_awake, awake_violation, plain_refusal, no_value_err, write_plain, read_plain, asleep_only, decoded_plain}
 use Rattle.rules.proofs.Causes.{hits, tick_cause, ext_cause, battery_cause, activity_cause, activity_cause_in, violation_cause, tick_bits, ext_bits, battery_bits, activity_bits, ring_bits, alarm_bits, write_bits, read_bits, violation_bits}
 use Rattle.rules.proofs.Wake.{New}
 

@@ -1,5 +1,5 @@
 -- What a byte is over every list of lines.
-use Rattle.std.proofs.Common.{◌≡◌, ℕ, ◌<◌, Bool, true, false, cond, not, ◌&&◌, ◌⊎◌, List, [], ◌∷◌, ◌++◌, is_ok, Ok, Err, Result, sym, refl, ap, ◌∙◌, subst, inl, inr, arith}
+use Rattle.std.proofs.Common.{◌≡◌, ℕ, ◌<◌, true, false, not, List, [], ◌∷◌, ◌++◌, is_ok, Ok, Err, Result, sym, refl, ap, ◌∙◌, subst, inl, inr}
 use Rattle.std.proofs.lemmas.List.{append-nil}
 use Rattle.std.proofs.lemmas.Bool.{and_from, and_parts, both_ways, not-true, not_from_false}
 use Rattle.terms.specs.declared.refusal.Refusal.{Refusal}
@@ -10,7 +10,7 @@ use Rattle.power.specs.Power.{outputs}
 use Rattle.registers.specs.Registers.{bit}
 use Rattle.frames.specs.Lines.{Line, kind_field, a_field, v_field}
 use Rattle.frames.specs.Decode.{Frame, decoded}
-use Rattle.rules.specs.Machine.{Machine, line, powered, fell, settled}
+use Rattle.rules.specs.Machine.{Machine, line, powered, settled}
 use Rattle.rules.specs.Step.{outcome, outcome_as, outcome_if, step, step_if, done_as, after}
 use Rattle.rules.specs.Bytes.{device_of, Leads, Writes, Loses, Sets, by_write, by_loss, Untouched, ByteLaw, SameShape}
 use Rattle.frames.specs.declared.kind.Kind.{Kind}

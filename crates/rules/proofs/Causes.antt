@@ -1,5 +1,5 @@
 -- How a frame changes the bits of CAUSE.
-use Rattle.std.proofs.Common.{◌≡◌, ℕ, ◌+◌, ◌-◌, ◌/◌, ◌%◌, ◌^◌, ◌<◌, Bool, true, false, cond, not, ◌&&◌, ◌||◌, eqb, ltb, leb, ◌⊎◌, is_ok, Some, None, Ok, Err, Option, Result, sym, refl, ap, ◌∙◌, subst, inl, inr, arith}
+use Rattle.std.proofs.Common.{◌≡◌, ℕ, ◌-◌, ◌/◌, ◌%◌, ◌^◌, ◌<◌, Bool, true, false, cond, not, ◌&&◌, ◌||◌, eqb, ltb, ◌⊎◌, is_ok, Some, None, Option, sym, refl, ap, ◌∙◌, inl, inr, arith}
 use Rattle.std.proofs.lemmas.Bool.{cases_eq, cond_both}
 use lib.Bits.{bit_or}
 use Rattle.std.proofs.lemmas.Nat.{or_shr, or_mod, mod_below}
@@ -14,10 +14,6 @@ use Rattle.power.specs.declared.cause.Cause.{Cause}
 use Rattle.power.specs.declared.cause.Cause.TheVariants as is
 use Rattle.registers.specs.declared.state.State.{State}
 use Rattle.registers.specs.declared.state.State.TheVariants.{On, Doze, Sleep, Suspend, Off}
-use Rattle.rules.specs.Machine.{Machine}
-use Rattle.rules.specs.Step.{outcome_as, done_as, high}
-use Rattle.frames.specs.declared.kind.Kind.{Kind}
-use Rattle.frames.specs.declared.kind.Kind.TheVariants as kind
 use Rattle.rules.proofs.Press.{impossible}
 
 -- a bit of two numbers joined

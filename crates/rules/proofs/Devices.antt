@@ -1,11 +1,9 @@
 -- What a frame does to the devices.
-use Rattle.std.proofs.Common.{◌≡◌, ℕ, ◌/◌, ◌<◌, Bool, true, false, cond, not, ◌&&◌, ◌||◌, eqb, ltb, leb, ◌⊎◌, is_ok, Ok, Err, Result, sym, refl, ap, ◌∙◌, subst, inl, inr, arith}
-use mathlib.Core.Path.{fun_ext}
+use Rattle.std.proofs.Common.{◌≡◌, ℕ, ◌/◌, ◌<◌, Bool, true, false, cond, not, ◌&&◌, ◌⊎◌, is_ok, Ok, Err, Result, sym, refl, ap, ◌∙◌, subst, inl, inr, arith}
 use Rattle.terms.specs.Limits.{page_size}
 use Rattle.std.proofs.lemmas.Bool.Decides.{nat_tests}
 use Rattle.std.proofs.lemmas.Bool.{cases_eq, cond-true, cond-false, cond_both}
 use Rattle.terms.specs.declared.refusal.Refusal.{Refusal}
-use Rattle.terms.specs.declared.refusal.Refusal.TheVariants as refusal
 use Rattle.device.specs.Meaning.{Meaning, faded}
 use Rattle.mapper.specs.Words.{split}
 use Rattle.mapper.specs.Translation.{socket_number, stored}
@@ -15,10 +13,10 @@ use Rattle.mapper.specs.declared.word.Socket.TheVariants as socket
 use Rattle.power.specs.Power.{outputs}
 use Rattle.registers.specs.Registers.{bit}
 use Rattle.frames.specs.Decode.{Frame}
-use Rattle.rules.specs.Machine.{Machine, with_power, with_words, line, powered, fell, settled}
-use Rattle.rules.specs.Step.{done_as, outcome_as, step_if, outcome_if}
+use Rattle.rules.specs.Machine.{Machine, with_words, line, fell, settled}
+use Rattle.rules.specs.Step.{done_as, outcome_as, step_if}
 use Rattle.rules.specs.Refusals.{socket_at, place_at}
-use Rattle.rules.specs.Bytes.{device_of, Leads}
+use Rattle.rules.specs.Bytes.{device_of}
 use Rattle.frames.specs.declared.kind.Kind.{Kind}
 use Rattle.frames.specs.declared.kind.Kind.TheVariants as kind
 use Rattle.rules.proofs.Frames.{kind_number, same_kind}

@@ -1,9 +1,9 @@
 -- All laws of every line of every list.
-use Rattle.std.proofs.Common.{◌≡◌, List, ◌∷◌, Result, sym, refl, ap, ◌∙◌, subst}
+use Rattle.std.proofs.Common.{◌≡◌, List, ◌∷◌, sym, refl, ap, ◌∙◌, subst}
 use Rattle.device.specs.Meaning.{Meaning}
 use Rattle.frames.specs.Lines.{Line}
 use Rattle.rules.specs.Machine.{Machine, fresh}
-use Rattle.rules.specs.Step.{outcome, step, answered, answer, after}
+use Rattle.rules.specs.Step.{step, answer, after}
 use Rattle.rules.specs.Laws.{LineLaws, Laws, Lawful}
 use Rattle.frames.specs.declared.answer.Answer.{Answer}
 use Rattle.rules.proofs.Rows.{first_row}

@@ -1,9 +1,9 @@
 -- The count of low samples is two exactly where the list of signals has settled.
-use Rattle.std.proofs.Common.{◌≡◌, ℕ, ◌+◌, ◌<◌, ◌≤◌, Bool, true, false, cond, not, ◌&&◌, eqb, ltb, List, [], ◌∷◌, ◌++◌, sym, refl, ap, ◌∙◌, subst, arith}
+use Rattle.std.proofs.Common.{◌≡◌, ℕ, ◌+◌, ◌≤◌, Bool, true, false, cond, ltb, List, [], ◌∷◌, ◌++◌, sym, refl, ap, ◌∙◌, subst, arith}
 use Rattle.std.proofs.lemmas.Bool.Decides.{nat_tests}
 use Rattle.rules.specs.Signals as sig
 use Rattle.rules.specs.Signals.{Input, Signal, level, Rises, Quiet, Settled, CleanPress}
-use Rattle.rules.proofs.Signals.{Inputs, inputs_after, level_agrees}
+use Rattle.rules.proofs.Signals.{inputs_after, level_agrees}
 
 abbrev low : List Signal → ℕ
 low es = (inputs_after es).low

@@ -1,16 +1,15 @@
 -- What the machine remembers of the signals agrees with the list of them.
-use Rattle.std.proofs.Common.{◌≡◌, ℕ, ◌+◌, ◌*◌, Bool, true, false, cond, not, ◌&&◌, eqb, ltb, List, [], ◌∷◌, is_ok, Ok, Err, Result, sym, refl, ap, ◌∙◌, arith}
+use Rattle.std.proofs.Common.{◌≡◌, ℕ, ◌+◌, Bool, true, false, cond, not, ◌&&◌, ltb, List, [], ◌∷◌, is_ok, Ok, Err, Result, sym, refl, ap, ◌∙◌, arith}
 use Rattle.std.proofs.lemmas.Bool.Decides.{nat_tests}
 use Rattle.terms.specs.declared.refusal.Refusal.{Refusal}
 use Rattle.power.specs.Power.{Power}
-use Rattle.power.specs.Causes.{raised}
-use Rattle.power.specs.Commands.{write_done, read_done, stores, write_answer}
-use Rattle.power.specs.Inputs.{ticked, sampled, counted, source_given, ext_given, ring_given, alarmed, battery_given}
+use Rattle.power.specs.Commands.{write_done, read_done}
+use Rattle.power.specs.Inputs.{sampled, counted, source_given, alarmed}
 use Rattle.frames.specs.Lines.{Line}
 use Rattle.frames.specs.Decode.{Frame, decoded}
 use Rattle.rules.specs.Machine.{Machine}
 use Rattle.rules.specs.Access.{cpu_written}
-use Rattle.rules.specs.Step.{outcome, outcome_as, outcome_if, step, step_if, after, done_as, high}
+use Rattle.rules.specs.Step.{outcome, outcome_as, outcome_if, step, step_if, after, done_as}
 use Rattle.rules.specs.Signals as sig
 use Rattle.rules.specs.Signals.{Input, Signal, signal_as, signal_if, signal, signals, level}
 use Rattle.frames.specs.declared.kind.Kind.{Kind}

@@ -1,15 +1,12 @@
 -- What a frame does in Suspend and Off.
-use Rattle.std.proofs.Common.{◌≡◌, ℕ, ◌+◌, ◌<◌, ◌≤◌, Bool, true, false, cond, not, ◌&&◌, eqb, ltb, leb, Ok, Err, Result, sym, refl, ap, ◌∙◌, subst, arith}
+use Rattle.std.proofs.Common.{◌≡◌, ℕ, ◌+◌, Bool, true, false, cond, not, ◌&&◌, eqb, ltb, leb, refl, arith}
 use Rattle.std.proofs.lemmas.Bool.Decides.{nat_tests}
-use Rattle.terms.specs.declared.refusal.Refusal.{Refusal}
 use Rattle.registers.specs.States.{asleep}
 use Rattle.power.specs.Power.{Power, ring_count}
 use Rattle.registers.specs.Registers.{bit}
-use Rattle.registers.specs.declared.state.State.{State}
-use Rattle.registers.specs.declared.state.State.TheVariants.{On, Doze, Sleep, Suspend, Off}
-use Rattle.frames.specs.Decode.{Frame}
+use Rattle.registers.specs.declared.state.State.TheVariants.{On}
 use Rattle.rules.specs.Machine.{Machine}
-use Rattle.rules.specs.Step.{step_if, done_as, high}
+use Rattle.rules.specs.Step.{done_as}
 use Rattle.rules.specs.Signals as sig
 use Rattle.rules.specs.Signals.{Input, Signal, signal_as, signal_if}
 use Rattle.frames.specs.declared.kind.Kind.{Kind}

@@ -1,11 +1,10 @@
 -- What ends Suspend and Off is what the list of lines says.
-use Rattle.std.proofs.Common.{◌≡◌, ℕ, ◌+◌, ◌%◌, ◌<◌, ◌≤◌, Bool, true, false, cond, not, ◌&&◌, eqb, ltb, leb, ◌⊎◌, List, [], ◌∷◌, ◌++◌, Ok, Err, Result, sym, refl, ap, ◌∙◌, subst, inl, inr, arith}
+use Rattle.std.proofs.Common.{◌≡◌, ◌+◌, ◌%◌, ◌<◌, Bool, true, false, cond, not, ◌&&◌, eqb, ltb, leb, List, [], ◌∷◌, ◌++◌, Ok, Err, Result, sym, refl, ap, ◌∙◌, subst, inl, inr, arith}
 use Rattle.std.proofs.lemmas.Bool.Decides.{nat_tests}
 use Rattle.std.proofs.lemmas.Bool.{cases_Bool, both_ways, and_parts, and_from, not_from_false, not-true, eqb-true, ltb-true, leb-true, lt-ltb, le-leb, eq-eqb, cond-true, cond-false}
 use Rattle.terms.specs.declared.refusal.Refusal.{Refusal}
 use Rattle.registers.specs.States.{asleep}
 use Rattle.power.specs.Power.{Power, cause, ring_count}
-use Rattle.registers.specs.Registers.{bit}
 use Rattle.registers.specs.declared.state.State.{State}
 use Rattle.registers.specs.declared.state.State.TheVariants.{On}
 use Rattle.frames.specs.Lines.{Line}
@@ -14,7 +13,7 @@ use Rattle.rules.specs.Machine.{Machine}
 use Rattle.rules.specs.Step.{step, step_if, after}
 use Rattle.rules.specs.Signals as sig
 use Rattle.rules.specs.Signals.{Input, Signal, signal_if, signal, signals, level, Rises, Settled, CleanPress}
-use Rattle.rules.specs.Waking.{asleep_at, Entry, AsleepThrough, raises, ring_rises, ProgrammedRing, Wakes, by_reset, by_press, by_ring, by_alarm, WakeLaw}
+use Rattle.rules.specs.Waking.{asleep_at, Entry, AsleepThrough, raises, ring_rises, Wakes, by_reset, by_press, by_ring, by_alarm, WakeLaw}
 use Rattle.rules.proofs.Signals.{Inputs, inputs, inputs_after, inputs_agree, level_agrees, signal_is}
 use Rattle.rules.proofs.Press.{impossible, settled_low, low_settled}
 use Rattle.rules.proofs.Sleeping.{wakes_by, state_as, rings_by, edges_as, wake_as, entry_as}

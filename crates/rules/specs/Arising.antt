@@ -1,5 +1,5 @@
 -- When each cause arises, and what a read of CAUSE shows, said of the list of lines.
-use Rattle.std.specs.Prelude.{◌≡◌, ℕ, Bool, true, false, ◌⊎◌, List, [], ◌∷◌, ◌++◌, is_ok, Ok, Err}
+use Rattle.std.specs.Prelude.{◌≡◌, ℕ, true, false, ◌⊎◌, List, [], ◌∷◌, ◌++◌, is_ok, Err}
 use Rattle.terms.specs.declared.refusal.Refusal.TheVariants as refusal
 use Rattle.power.specs.Power.{mask}
 use Rattle.registers.specs.Registers.{bit}

@@ -1,5 +1,5 @@
 -- What a byte of a device is, over every list of lines, and when the processor's reads and writes are taken.
-use Rattle.std.specs.Prelude.{◌≡◌, ℕ, ◌/◌, ◌<◌, Bool, true, false, not, List, [], ◌∷◌, ◌++◌, is_ok, Ok, Err}
+use Rattle.std.specs.Prelude.{◌≡◌, ℕ, ◌/◌, ◌<◌, true, false, List, [], ◌∷◌, ◌++◌, is_ok, Err}
 use Rattle.terms.specs.Limits.{page_size}
 use Rattle.terms.specs.declared.refusal.Refusal.{Refusal}
 use Rattle.device.specs.Meaning.{Meaning}

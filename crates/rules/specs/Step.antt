@@ -4,7 +4,7 @@ use Rattle.terms.specs.declared.refusal.Refusal.{Refusal}
 use Rattle.terms.specs.declared.refusal.Refusal.TheVariants as refusal
 use Rattle.mapper.specs.Translation.{stored, reset_words}
 use Rattle.registers.specs.States.{asleep}
-use Rattle.power.specs.Power.{Power, outputs, reset}
+use Rattle.power.specs.Power.{outputs, reset}
 use Rattle.power.specs.Causes.{interrupts}
 use Rattle.power.specs.Commands.{read_answer, read_done, write_answer, write_done}
 use Rattle.power.specs.Inputs.{ticked, source_given, ext_given, ring_given, alarmed, battery_given, with_ac}

@@ -1,5 +1,5 @@
-use Rattle.std.proofs.Common.{◌≡◌, ℕ, ap, ◌∙◌, rules}
-use Rattle.registers.specs.Registers.{index, stored}
+use Rattle.std.proofs.Common.{ℕ, ap, ◌∙◌, rules}
+use Rattle.registers.specs.Registers.{stored}
 use Rattle.power.specs.View.{view}
 use Rattle.power.proofs.Table.{stored_is, with_table}
 use Rattle.power.proofs.unit.PowerUnit.set.Goals as goal

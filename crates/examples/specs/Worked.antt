@@ -1,6 +1,5 @@
 -- Examples of what the rules give, on the board of the program `engine`.
-use Rattle.std.specs.Prelude.{ℕ, ◌/◌, ◌%◌, Bool, true, false, not, ◌&&◌, List, [], ◌∷◌, ◌++◌, replicate, Some, None, codes, Option, ◌==◌, nat_lt}
-use Rattle.device.specs.Meaning.{Meaning}
+use Rattle.std.specs.Prelude.{ℕ, ◌%◌, Bool, true, false, not, ◌&&◌, List, [], ◌∷◌, ◌++◌, replicate, Some, None, codes, Option, ◌==◌, nat_lt}
 use Rattle.device.specs.Sized.{sized}
 use Rattle.mapper.specs.Translation.{Target, leads}
 use Rattle.frames.specs.Lines.{Line}

@@ -1,5 +1,5 @@
 -- What is held of a line.
-use Rattle.std.proofs.Common.{◌≡◌, ℕ, ◌+◌, ◌<◌, ◌≤◌, List, [], ◌∷◌, ◌++◌, length, take, set, sym, ap, ◌∙◌, arith}
+use Rattle.std.proofs.Common.{◌≡◌, ℕ, ◌+◌, ◌<◌, ◌≤◌, List, [], ◌∷◌, ◌++◌, length, take, set, sym, ◌∙◌, arith}
 use Rattle.std.proofs.lemmas.List.{take_more_set, take_all, take_at, length_push, length-take-le}
 
 pub one_more : (xs : List ℕ) (n b : ℕ) → length xs ≡ 13 → n < 13 → take (n + 1) (set xs n b) ≡ take 13 (take n xs ++ b ∷ [])

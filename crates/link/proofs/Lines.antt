@@ -1,8 +1,8 @@
 -- How lines grow by bytes more, and that a line is answered by its first thirteen bytes.
-use Rattle.std.proofs.Common.{◌≡◌, ℕ, ◌+◌, ◌<◌, ◌≤◌, Bool, true, false, cond, ◌&&◌, eqb, ltb, List, [], ◌∷◌, ◌++◌, length, get_or, take, drop, Err, sym, refl, ap, ◌∙◌, subst, inl, inr, arith}
+use Rattle.std.proofs.Common.{◌≡◌, ℕ, true, false, cond, eqb, List, [], ◌∷◌, ◌++◌, length, take, Err, sym, refl, ap, ◌∙◌, inl, inr, arith}
 use Rattle.std.proofs.lemmas.List.{take_all, take_at, length-take, append_assoc, append-nil}
 use lib.Seq.{take-append-le}
-use Rattle.std.proofs.lemmas.Bool.{cases_lt, ne_eqb, and_left, and_parts, cond-true, cond-false, both_ways}
+use Rattle.std.proofs.lemmas.Bool.{cases_lt, ne_eqb, and_left, and_parts, cond-false}
 use Rattle.std.proofs.lemmas.Bool.Decides.{nat_tests}
 use Rattle.terms.specs.declared.refusal.Refusal.TheVariants as refusal
 use Rattle.frames.specs.Lines.{Line, is_digit, all_digits, is_frame, kind_field, a_field, v_field}

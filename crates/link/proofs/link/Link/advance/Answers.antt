@@ -4,7 +4,7 @@ use Rattle.link.proofs.link.Link.advance.Goals as goal
 
 pub returns-in-None : goal.returns-in-None
 returns-in-None g c = record {
-  goes = goes_from c.in-None.ensures.0 c.in-None.ensures.1 (take_one c.args.rest.now c.requires) c.next-byte.ensures;
+  goes = goes_from c.in-None.ensures.0 c.in-None.ensures.1 (take_one c.args.rest.now c.requires) c.next_byte.ensures;
   some = search rules;
   within = search rules;
 }

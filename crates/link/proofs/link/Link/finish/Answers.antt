@@ -8,9 +8,9 @@ pub returns : goal.returns
 returns g c =
     let some = some_held c.args.self.now.held c.args.self.now.len (search rules) c.if-self-eq0.false in
     record {
-      machine = λ first bytes s. finish_machine first _ _ bytes _ (unfinished bytes) some s.machine_is s.held_is c.end-line.ensures.engine;
-      says = λ first bytes s. finish_says first _ bytes _ (unfinished bytes) c.end-line.result some s.machine_is s.held_is c.end-line.ensures.answer;
-      held = c.end-line.ensures.held;
+      machine = λ first bytes s. finish_machine first _ _ bytes _ (unfinished bytes) some s.machine_is s.held_is c.end_line.ensures.engine;
+      says = λ first bytes s. finish_says first _ bytes _ (unfinished bytes) c.end_line.result some s.machine_is s.held_is c.end_line.ensures.answer;
+      held = c.end_line.ensures.held;
       laws = λ ram rom card_a card_b bytes s. all_lawful ram rom card_a card_b _;
     }
 

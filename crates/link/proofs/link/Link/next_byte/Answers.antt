@@ -5,7 +5,7 @@ use Rattle.link.proofs.link.Link.next_byte.Goals as goal
 
 pub returns-then-b-eq10 : goal.returns-then-b-eq10
 returns-then-b-eq10 g c =
-    goes_end _ _ _ _ c.args.b c.end-line.result c.if-b-eq10.true c.end-line.ensures.engine c.end-line.ensures.held c.end-line.ensures.answer
+    goes_end _ _ _ _ c.args.b c.end_line.result c.if-b-eq10.true c.end_line.ensures.engine c.end_line.ensures.held c.end_line.ensures.answer
 
 pub returns : goal.returns
 returns g c =

@@ -1,10 +1,10 @@
-use Rattle.std.proofs.Common.{◌≡◌, ℕ, ◌+◌, ◌-◌, List, ◌++◌, take, drop, sym, ap, ◌∙◌, arith, length-take, rules}
+use Rattle.std.proofs.Common.{ℕ, ◌+◌, ◌-◌, List, ◌++◌, take, drop, sym, ap, ◌∙◌, arith, length-take, rules}
 use Rattle.std.proofs.lemmas.List.{append-nil}
 use Rattle.rules.proofs.Laws.{all_lawful}
 use Rattle.link.specs.Stream.{said}
 use Rattle.link.proofs.Steps.{goes_turn, rest_more}
 use Rattle.link.proofs.link.Link.receive.Goals as goal
-use Rattle.link.proofs.link.Link.receive.Goals.{in-Some, in-default}
+use Rattle.link.proofs.link.Link.receive.Goals.{in-Some, in_default}
 
 pub loop-at-preserved : goal.loop-at-preserved
 loop-at-preserved g c =
@@ -32,14 +32,14 @@ loop-at-preserved g c =
             ∙ rest_more out c.args.out.now written 13 c.loop-at.invariant.3
             ∙ ap (λ (n : ℕ). drop n c.args.out.now) (sym w.written-is),
       )
-      | in-default w ↦ (
+      | in_default w ↦ (
         omega (arith, c.loop-at.invariant.0, c.advance-next.ensures.some, w.written-is),
         omega (arith, within, c.advance-next.ensures.within, c.loop-at.invariant.1),
         goes (
             ap (λ (n : ℕ). take n c.match-next.out) w.written-is
             ∙ ap (λ (o : List ℕ). take written o) w.out-is
             ∙ sym (append-nil (take written out))
-            ∙ ap (λ r. take written out ++ said r) (sym w.in-default.is)
+            ∙ ap (λ r. take written out ++ said r) (sym w.in_default.is)
             ) c.loop-at.invariant.2 c.advance-next.ensures.goes,
         ap (λ (n : ℕ). drop n c.match-next.out) w.written-is
             ∙ ap (λ (o : List ℕ). drop written o) w.out-is

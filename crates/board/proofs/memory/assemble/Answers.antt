@@ -7,11 +7,11 @@ pub returns : goal.returns
 returns c =
     let even : c.new-ram.result.even.bytes.now ≡ take places c.args.even.now = search rules in
     let odd : c.new-ram.result.odd.bytes.now ≡ take places c.args.odd.now = search rules in
-    let kept : c.protected-card-a.result.device.ram.bytes.now ≡ take places c.args.card.now = search rules in
+    let kept : c.protected-card_a.result.device.ram.bytes.now ≡ take places c.args.card.now = search rules in
     record {
       machine =
           c.new-6.ensures.machine_is
           ∙ c.new-5.ensures
-          ∙ stands_on _ _ _ _ _ _ _ _ _ _ even odd c.new-4.ensures c.protected-card-a.ensures.segments c.protected-card-a.ensures.flags kept;
+          ∙ stands_on _ _ _ _ _ _ _ _ _ _ even odd c.new-4.ensures c.protected-card_a.ensures.segments c.protected-card_a.ensures.flags kept;
       held = c.new-6.ensures.held_is;
     }

@@ -6,6 +6,6 @@ pub returns : goal.returns
 returns c = record {
   machine =
       c.assemble.ensures.machine
-      ∙ same_board _ _ _ _ _ _ _ _ c.as-mut-slice.ensures.value c.as-mut-slice-2.ensures.value c.as-slice.ensures.value c.as-mut-slice-3.ensures.value;
+      ∙ same_board _ _ _ _ _ _ _ _ c.as_mut_slice.ensures.value c.as_mut_slice-2.ensures.value c.as_slice.ensures.value c.as_mut_slice-3.ensures.value;
   held = c.assemble.ensures.held;
 }

@@ -2,9 +2,9 @@ use Rattle.board.proofs.memory.Memory.new.Goals as goal
 
 pub returns : goal.returns
 returns c = (
-  c.in-ok-clear-chip.ensures,
-  c.in-ok-clear-chip-2.ensures,
-  c.in-ok-clear-chip-3.ensures,
-  c.in-ok-burnt-chip.ensures.0,
-  c.in-ok-burnt-chip.ensures.1,
+  c.in_ok-clear_chip.ensures,
+  c.in_ok-clear_chip-2.ensures,
+  c.in_ok-clear_chip-3.ensures,
+  c.in_ok-burnt_chip.ensures.0,
+  c.in_ok-burnt_chip.ensures.1,
 )

@@ -93,7 +93,7 @@ impl<R: Device + Drop, O: Device + Drop, CA: Device + Drop, CB: Device + Drop> S
 }
 
 fn reads_causes(line: &[u8]) -> bool {
-    line == b"020000050000"
+    line == b"020000050000".as_slice()
 }
 
 // A CPU write with another last digit. Whether it is taken does not depend on that digit.

@@ -4,11 +4,11 @@
 mod fault;
 
 use board::Memory;
-use device::Device;
 use fault::Fault;
 use frames::ANSWER_LENGTH;
 use std::env;
 use std::io::{ErrorKind, Read, Write};
+use std::process::ExitCode;
 
 // How much is read at a time.
 const BLOCK: usize = 65536;
@@ -16,12 +16,14 @@ const BLOCK: usize = 65536;
 // Room for the answers of a block, should each of its bytes end a line.
 const ROOM: usize = ANSWER_LENGTH * BLOCK;
 
-fn main(rt: HostRuntime) -> Result<(), Fault> {
-    let done = start(&rt);
-    if let Err(fault) = &done {
-        let _ = eprintln!(rt; "engine: {fault}");
+fn main(rt: HostRuntime) -> ExitCode {
+    match start(&rt) {
+        Ok(()) => ExitCode::SUCCESS,
+        Err(fault) => {
+            let _ = eprintln!(rt; "engine: {fault}");
+            ExitCode::FAILURE
+        }
     }
-    done
 }
 
 fn start(rt: &HostRuntime) -> Result<(), Fault> {

@@ -27,7 +27,7 @@ abbrev pub rom_of : Rom → Meaning
 rom_of r = read_only r.bytes.now
 
 abbrev pub card_of : Guard BackedRam → Meaning
-card_of g = guarded g.segments g.flags.protected (backed g.device.ram.bytes.now)
+card_of g = guarded g.segments g.flags.protected (backed g.device.bytes.now)
 
 abbrev pub none_of : Empty → Meaning
 none_of e = empty

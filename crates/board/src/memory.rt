@@ -71,7 +71,7 @@ pub fn assemble<'a>(
 
 // A card of which the first 2,048 places are write-protected.
 fn protected(card: BackedRam) -> Guard<BackedRam>
-    ensures below { result.device.ram.bytes.now ≡ card.entry.ram.bytes.now }
+    ensures below { result.device.bytes.now ≡ card.entry.bytes.now }
     ensures segments { result.segments ≡ Places2048 }
     ensures flags { result.flags.protected ≡ card_flags }
 {

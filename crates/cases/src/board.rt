@@ -5,6 +5,7 @@ use board::{assemble, burn};
 use device::Device;
 use frames::ANSWER_LENGTH;
 use link::Link;
+use std::process::Abort;
 use std::test::*;
 
 // The size of each of the two RAM chips, of the ROM and of card A.
@@ -35,15 +36,15 @@ impl<R: Device, O: Device, CA: Device, CB: Device> Answers for Link<R, O, CA, CB
 
 // What is tried on a link.
 pub trait Trial {
-    fn run(self, link: &mut impl Answers) -> Result<(), Fail>;
+    fn run(self, rt: &impl Abort, link: &mut impl Answers) -> Result<(), Fail>;
 }
 
 // Runs the trial on a board of its own.
-pub(crate) fn on_board(trial: impl Trial) -> Result<(), Fail> {
+pub(crate) fn on_board(rt: &impl Abort, trial: impl Trial) -> Result<(), Fail> {
     let mut even = [0; CHIP];
     let mut odd = [0; CHIP];
     let mut rom = [0; CHIP];
     let mut card = [0; CHIP];
     burn(&mut rom);
-    trial.run(&mut assemble(&mut even, &mut odd, &rom, &mut card))
+    trial.run(rt, &mut assemble(&mut even, &mut odd, &rom, &mut card))
 }

@@ -82,11 +82,11 @@ static POWER: [Session; 4] = [
 ];
 
 #[test]
-fn a_write_needs_an_open_page_and_an_open_place() -> Result<(), Fail> {
-    play_all(&PROTECTION)
+fn a_write_needs_an_open_page_and_an_open_place(rt: HostRuntime) -> Result<(), Fail> {
+    play_all(&rt, &PROTECTION)
 }
 
 #[test]
-fn ram_is_lost_when_its_line_falls() -> Result<(), Fail> {
-    play_all(&POWER)
+fn ram_is_lost_when_its_line_falls(rt: HostRuntime) -> Result<(), Fail> {
+    play_all(&rt, &POWER)
 }

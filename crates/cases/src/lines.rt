@@ -3,6 +3,7 @@ ghost use Rattle.std.specs.Prelude.{◌<◌};
 
 use super::board::{Answers, Trial, on_board};
 use frames::ANSWER_LENGTH;
+use std::process::Abort;
 use std::test::*;
 
 // A whole input, and all that must be answered to it.
@@ -75,17 +76,24 @@ static STREAMS: [Stream; 20] = [
 ];
 
 #[test]
-fn answers_are_the_same_in_any_chunks() -> Result<(), Fail> {
-    for (n, stream) in STREAMS.iter().enumerate() {
-        hold_all(*stream).note(n)?;
+fn answers_are_the_same_in_any_chunks(rt: HostRuntime) -> Result<(), Fail> {
+    for (number, stream) in STREAMS.iter().enumerate() {
+        hold_all(&rt, number, *stream)?;
     }
     Ok(())
 }
 
 // Every size, from single bytes to the whole input at once.
-fn hold_all(stream: Stream) -> Result<(), Fail> {
+fn hold_all(rt: &impl Abort, number: usize, stream: Stream) -> Result<(), Fail> {
     for size in 1..=LONGEST {
-        on_board(Chunked { stream, size }).note(size)?;
+        on_board(
+            rt,
+            Chunked {
+                number,
+                stream,
+                size,
+            },
+        )?;
     }
     Ok(())
 }
@@ -93,19 +101,27 @@ fn hold_all(stream: Stream) -> Result<(), Fail> {
 // A stream that comes in chunks of one size.
 #[derive(Clone, Copy)]
 struct Chunked<'a> {
+    number: usize,
     stream: Stream<'a>,
     size: usize,
     ghost some: { 0 < size },
 }
 
 impl Trial for Chunked<'_> {
-    fn run(self, link: &mut impl Answers) -> Result<(), Fail> {
+    fn run(self, rt: &impl Abort, link: &mut impl Answers) -> Result<(), Fail> {
         let Stream(input, answers) = self.stream;
         let mut expected = Expected(answers);
         for chunk in input.chunks(self.size) {
-            expected.meet_chunk(link, chunk)?;
+            let met = expected.meets_chunk(link, chunk);
+            assert!(rt; met, "stream {} in chunks of {}", self.number, self.size);
         }
-        expected.meet_end(link)
+        let ended = expected.meets_end(link);
+        assert!(rt;
+            ended,
+            "the end of stream {} in chunks of {}",
+            self.number, self.size
+        );
+        Ok(())
     }
 }
 
@@ -114,33 +130,27 @@ impl Trial for Chunked<'_> {
 struct Expected<'a>(&'a [u8]);
 
 impl Expected<'_> {
-    fn meet_chunk(&mut self, link: &mut impl Answers, chunk: &[u8]) -> Result<(), Fail> {
+    fn meets_chunk(&mut self, link: &mut impl Answers, chunk: &[u8]) -> bool {
         let mut out = [0; ROOM];
         let n = link.answer(chunk, &mut out);
-        self.meet(&out[0..n])
+        self.meets(&out[0..n])
     }
 
-    fn meet_end(&self, link: &mut impl Answers) -> Result<(), Fail> {
+    fn meets_end(&self, link: &mut impl Answers) -> bool {
         match link.answer_end() {
-            Some(answer) => {
-                assert!(self.0 == &answer);
-                Ok(())
-            },
-            None => {
-                assert!(self.0.is_empty());
-                Ok(())
-            },
+            Some(answer) => self.0 == answer.as_slice(),
+            None => self.0.is_empty(),
         }
     }
 
     // Takes off what is answered now.
-    fn meet(&mut self, answers: &[u8]) -> Result<(), Fail> {
+    fn meets(&mut self, answers: &[u8]) -> bool {
         match self.0.strip_prefix(answers) {
             Some(rest) => {
                 self.0 = rest;
-                Ok(())
+                true
             }
-            None => Err(Fail::new("another answer is expected")),
+            None => false,
         }
     }
 }

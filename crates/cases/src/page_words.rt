@@ -32,12 +32,9 @@ fn check_word(rt: &impl Abort, expected: Split) -> Result<(), Fail> {
     let parts = split(word);
     let flags = parts.mapped == mapped && parts.readonly == readonly;
     let numbers = parts.socket == socket && parts.page == page;
-    assert!(rt; flags && numbers, "{}", word);
-    assert!(rt;
-        matches!(join(parts), Ok(joined) if joined == word),
-        "{}",
-        word
-    );
+    assert!(rt; flags && numbers, "{word}");
+    let joined = join(parts);
+    assert!(rt; matches!(joined, Ok(w) if w == word), "{word}");
     Ok(())
 }
 

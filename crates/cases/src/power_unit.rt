@@ -241,21 +241,21 @@ static CAUSES: [Session; 6] = [
 ];
 
 #[test]
-fn the_idle_counter_runs_out_at_its_tick() -> Result<(), Fail> {
-    play_all(&IDLE)
+fn the_idle_counter_runs_out_at_its_tick(rt: HostRuntime) -> Result<(), Fail> {
+    play_all(&rt, &IDLE)
 }
 
 #[test]
-fn a_press_is_a_rise_after_two_low_samples() -> Result<(), Fail> {
-    play_all(&PRESSES)
+fn a_press_is_a_rise_after_two_low_samples(rt: HostRuntime) -> Result<(), Fail> {
+    play_all(&rt, &PRESSES)
 }
 
 #[test]
-fn the_programmed_ring_wakes() -> Result<(), Fail> {
-    play_all(&RINGS)
+fn the_programmed_ring_wakes(rt: HostRuntime) -> Result<(), Fail> {
+    play_all(&rt, &RINGS)
 }
 
 #[test]
-fn a_cause_stays_until_it_is_read() -> Result<(), Fail> {
-    play_all(&CAUSES)
+fn a_cause_stays_until_it_is_read(rt: HostRuntime) -> Result<(), Fail> {
+    play_all(&rt, &CAUSES)
 }

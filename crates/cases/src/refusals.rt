@@ -36,6 +36,6 @@ static EXAMPLES: [Session; 13] = [
 ];
 
 #[test]
-fn each_refusal_has_its_example() -> Result<(), Fail> {
-    play_all(&EXAMPLES)
+fn each_refusal_has_its_example(rt: HostRuntime) -> Result<(), Fail> {
+    play_all(&rt, &EXAMPLES)
 }

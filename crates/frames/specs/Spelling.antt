@@ -1,5 +1,5 @@
 -- How an answer is spelled: twelve digits and 0Ah.
-use Rattle.std.specs.Prelude.{ℕ, ◌+◌, ◌/◌, ◌%◌, Bool, cond, List, [], ◌∷◌, ◌++◌, Ok, Err, Result, nat_lt}
+use Rattle.std.specs.Prelude.{ℕ, ◌+◌, ◌/◌, ◌%◌, cond, List, [], ◌∷◌, ◌++◌, Ok, Err, Result, nat_lt}
 use Rattle.terms.specs.Numbers.{number}
 use Rattle.terms.specs.declared.refusal.Refusal.{Refusal}
 use Rattle.registers.specs.States.{state_number}
@@ -26,15 +26,10 @@ abbrev pub four_digits : ℕ → List ℕ
 four_digits n = two_digits (n / 0x100) ++ two_digits (n % 0x100)
 
 -- number, value read, state, outputs, NMI
-abbrev pub digits_by : ℕ → ℕ → ℕ → ℕ → Bool → List ℕ
-digits_by number value state outputs interrupt =
-    two_digits number ++ four_digits value ++ two_digits state ++ two_digits outputs ++ two_digits (cond interrupt 1 0)
-
-unfoldable pub line_of : ℕ → ℕ → ℕ → ℕ → Bool → List ℕ
-line_of number value state outputs interrupt = digits_by number value state outputs interrupt ++ 0x0A ∷ []
-
 abbrev pub digits_of : Answer → List ℕ
-digits_of r = digits_by (number_of r.outcome) (value_of r.outcome) (state_number r.state) r.outputs r.interrupt
+digits_of r =
+    two_digits (number_of r.outcome) ++ four_digits (value_of r.outcome) ++ two_digits (state_number r.state)
+    ++ two_digits r.outputs ++ two_digits (cond r.interrupt 1 0)
 
-abbrev pub spelled : Answer → List ℕ
-spelled r = line_of (number_of r.outcome) (value_of r.outcome) (state_number r.state) r.outputs r.interrupt
+unfoldable pub spelled : Answer → List ℕ
+spelled r = digits_of r ++ 0x0A ∷ []

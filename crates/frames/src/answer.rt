@@ -1,6 +1,6 @@
 // What a line is answered, and how that is spelled.
 ghost use Rattle.std.specs.Prelude.{◌≡◌, ◌<◌, [], ◌∷◌};
-ghost use Rattle.frames.specs.Spelling.{number_of, value_of, digit_byte, two_digits, line_of, spelled};
+ghost use Rattle.frames.specs.Spelling.{number_of, value_of, digit_byte, two_digits, spelled};
 
 use registers::State;
 use terms::Refusal;
@@ -37,30 +37,19 @@ impl Answer {
         }
     }
 
+    // Number, value read, state, outputs, NMI, and the end of the line.
     pub fn spell(&self) -> [u8; 13]
         ensures { result ≡ spelled self.now }
     {
-        spell_line(
-            self.number(),
-            self.value(),
-            self.state.number(),
-            self.outputs,
-            self.interrupt,
-        )
+        let value = self.value();
+        let [n1, n0] = two_digits(self.number());
+        let [v3, v2] = two_digits((value / 0x100) as u8);
+        let [v1, v0] = two_digits((value % 0x100) as u8);
+        let [s1, s0] = two_digits(self.state.number());
+        let [o1, o0] = two_digits(self.outputs);
+        let [i1, i0] = two_digits(u8::from(self.interrupt));
+        [n1, n0, v3, v2, v1, v0, s1, s0, o1, o0, i1, i0, b'\n']
     }
-}
-
-// Number, value read, state, outputs, NMI, and the end of the line.
-fn spell_line(number: u8, value: u16, state: u8, outputs: u8, interrupt: bool) -> [u8; 13]
-    ensures { result ≡ line_of number value state outputs interrupt }
-{
-    let [n1, n0] = two_digits(number);
-    let [v3, v2] = two_digits((value / 0x100) as u8);
-    let [v1, v0] = two_digits((value % 0x100) as u8);
-    let [s1, s0] = two_digits(state);
-    let [o1, o0] = two_digits(outputs);
-    let [i1, i0] = two_digits(u8::from(interrupt));
-    [n1, n0, v3, v2, v1, v0, s1, s0, o1, o0, i1, i0, b'\n']
 }
 
 fn two_digits(n: u8) -> [u8; 2]

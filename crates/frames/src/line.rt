@@ -1,6 +1,5 @@
 // A line taken apart: digits, fields, and the command that they make.
 ghost use Rattle.std.specs.Prelude.{◌≡◌, ◌+◌, ◌*◌, ◌<◌, ◌≤◌, Bool, if◌then◌else◌, Some, None, Ok, Err};
-ghost use Rattle.std.specs.Option.{option_map};
 ghost use Rattle.frames.specs.Lines.{digit, all_digits, is_frame};
 ghost use Rattle.frames.specs.Kinds.{kind_of, a_top, v_top};
 ghost use Rattle.frames.specs.Decode.{checked, listed, decoded};
@@ -90,7 +89,7 @@ fn command(kind: Kind, a: u32, v: u32) -> Result<Command, Refusal>
     ensures { ok_map frame_of result ≡ checked kind a v }
 {
     check(kind, a, v)?;
-    build(kind, a, v).ok_or(Refusal::IndexTooLarge)
+    build(kind, a, v)
 }
 
 fn check(kind: Kind, a: u32, v: u32) -> Result<(), Refusal>
@@ -110,25 +109,38 @@ fn check(kind: Kind, a: u32, v: u32) -> Result<(), Refusal>
     Ok(())
 }
 
-// The command of fields that were checked, so there always is one.
-fn build(kind: Kind, a: u32, v: u32) -> Option<Command>
+// The command of fields that were checked.
+fn build(kind: Kind, a: u32, v: u32) -> Result<Command, Refusal>
     requires { (a ≤ a_top kind) × (v ≤ v_top kind a) }
-    ensures { option_map frame_of result ≡ Some (record { kind = kind; a = a; v = v }) }
+    ensures { ok_map frame_of result ≡ Ok (record { kind = kind; a = a; v = v }) }
 {
     match kind {
-        Kind::Reset => Some(Command::Reset),
-        Kind::RegisterWrite => Some(Command::RegisterWrite(Register::new(a)?, v as u8)),
-        Kind::RegisterRead => Some(Command::RegisterRead(Register::new(a)?)),
-        Kind::PageWrite => Some(Command::PageWrite(CpuPage::new(a)?, v as u16)),
-        Kind::PageRead => Some(Command::PageRead(CpuPage::new(a)?)),
-        Kind::CpuWrite => Some(Command::CpuWrite(CpuAddress::new(a)?, v as u8)),
-        Kind::CpuRead => Some(Command::CpuRead(CpuAddress::new(a)?)),
-        Kind::Tick => Some(Command::Input(Event::Tick)),
-        Kind::Activity => Some(Command::Input(Event::Activity(Source::new(a)?))),
-        Kind::Ext => Some(Command::Input(Event::Ext(v == 1))),
-        Kind::Ring => Some(Command::Input(Event::Ring(v == 1))),
-        Kind::Alarm => Some(Command::Input(Event::Alarm)),
-        Kind::Battery => Some(Command::Input(Event::Battery(v == 1))),
-        Kind::Ac => Some(Command::Input(Event::Ac(v == 1))),
+        Kind::Reset => Ok(Command::Reset),
+        Kind::RegisterWrite => Ok(Command::RegisterWrite(
+            Register::new(a).ok_or(Refusal::IndexTooLarge)?,
+            v as u8,
+        )),
+        Kind::RegisterRead => Ok(Command::RegisterRead(Register::new(a).ok_or(
+            Refusal::IndexTooLarge,
+        )?)),
+        Kind::PageWrite => Ok(Command::PageWrite(
+            CpuPage::new(a).ok_or(Refusal::IndexTooLarge)?,
+            v as u16,
+        )),
+        Kind::PageRead => Ok(Command::PageRead(CpuPage::new(a).ok_or(Refusal::IndexTooLarge)?)),
+        Kind::CpuWrite => Ok(Command::CpuWrite(
+            CpuAddress::new(a).ok_or(Refusal::IndexTooLarge)?,
+            v as u8,
+        )),
+        Kind::CpuRead => Ok(Command::CpuRead(CpuAddress::new(a).ok_or(Refusal::IndexTooLarge)?)),
+        Kind::Tick => Ok(Command::Input(Event::Tick)),
+        Kind::Activity => Ok(Command::Input(Event::Activity(Source::new(a).ok_or(
+            Refusal::IndexTooLarge,
+        )?))),
+        Kind::Ext => Ok(Command::Input(Event::Ext(v == 1))),
+        Kind::Ring => Ok(Command::Input(Event::Ring(v == 1))),
+        Kind::Alarm => Ok(Command::Input(Event::Alarm)),
+        Kind::Battery => Ok(Command::Input(Event::Battery(v == 1))),
+        Kind::Ac => Ok(Command::Input(Event::Ac(v == 1))),
     }
 }

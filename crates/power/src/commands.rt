@@ -1,7 +1,7 @@
 // Making the unit, its registers, states and causes.
 ghost use Rattle.std.specs.Prelude.{◌≡◌, ◌<◌, true, false, if◌then◌else◌, ◌==◌, slice_index};
-ghost use Rattle.registers.specs.States.{asleep, is_load};
-ghost use Rattle.registers.specs.Registers.{index, bit, write_protected};
+ghost use Rattle.registers.specs.States.{asleep};
+ghost use Rattle.registers.specs.Registers.{index, bit};
 ghost use Rattle.power.specs.Power.{cause, put, reloaded, entered, reset};
 ghost use Rattle.power.specs.Causes.{raised, violated};
 ghost use Rattle.power.specs.Commands.{read_answer, read_done, write_answer, write_done};
@@ -103,11 +103,11 @@ impl PowerUnit {
         if self.state.asleep() {
             return Err(Refusal::Asleep);
         }
-        if is_write_protected(register) {
+        if register.is_write_protected() {
             return Err(Refusal::RegisterNotWritable);
         }
         self.set(register, value);
-        if is_load(self.state, register) {
+        if self.state.has_load(register) {
             self.reload();
         }
         Ok(())
@@ -171,32 +171,6 @@ impl PowerUnit {
         ensures { result ≡ (view self.now).table (index register) }
     {
         self.registers[register.index()]
-    }
-}
-
-// CAUSE, the violation's address and the present outputs are not written by a frame.
-fn is_write_protected(register: Register) -> bool
-    ensures { result ≡ write_protected (index register) }
-{
-    match register {
-        Register::Cause
-        | Register::ViolationLow
-        | Register::ViolationMiddle
-        | Register::ViolationHigh
-        | Register::Outputs => true,
-        _ => false,
-    }
-}
-
-// Whether the register holds the state's load.
-fn is_load(state: State, register: Register) -> bool
-    ensures { result ≡ is_load state (index register) }
-{
-    match (state, register) {
-        (State::On, Register::DozeLoad)
-        | (State::Doze, Register::SleepLoad)
-        | (State::Sleep, Register::SuspendLoad) => true,
-        (_, _) => false,
     }
 }
 

@@ -1,60 +1,64 @@
-// Backed RAM: RAM with a battery, which keeps its bytes without power.
+// Backed RAM over the caller's bytes: every place can be written, and a battery keeps its byte without power.
 ghost use Rattle.std.specs.Prelude.{◌≡◌, length, take};
-ghost use Rattle.device.specs.Kinds.{backed};
 ghost use Rattle.ram.specs.Image.{load_at, loaded};
+ghost use Rattle.device.specs.Kinds.{backed};
 ghost use Rattle.terms.specs.Limits.{places};
 
-use crate::ram::Ram;
+use crate::bytes;
 use device::Device;
 use terms::{Fault, Place};
 
 #[derive(Drop)]
 pub struct BackedRam<'a> {
-    ram: Ram<'a>,
+    bytes: &'a mut [u8],
 }
 
 impl<'a> BackedRam<'a> {
+    // Bytes beyond the places that a device can have are left out, so that nothing touches them.
     pub fn new(bytes: &'a mut [u8]) -> BackedRam<'a>
-        ensures { result.ram.bytes.now ≡ take places bytes.old }
+        ensures { result.bytes.now ≡ take places bytes.old }
     {
+        let size = bytes::size(bytes) as usize;
         BackedRam {
-            ram: Ram::new(bytes),
+            bytes: &mut bytes[0..size],
         }
     }
 
-    // As RAM's.
+    // Puts an image over the bytes from `start` on. It is for before the device goes into a socket.
     pub fn load(&mut self, start: usize, image: &[u8]) -> Result<(), Fault>
-        ensures answer { result ≡ load_at (length self.old.ram.bytes.now) start (length image.now) }
-        ensures after { self.new.ram.bytes.now ≡ loaded self.old.ram.bytes.now start image.now }
+        ensures answer { result ≡ load_at (length self.old.bytes.now) start (length image.now) }
+        ensures after { self.new.bytes.now ≡ loaded self.old.bytes.now start image.now }
     {
-        self.ram.load(start, image)
+        bytes::check_room(self.bytes.len(), start, image.len())?;
+        bytes::copy_front(&mut self.bytes[start..], image);
+        Ok(())
     }
 
     pub fn into_bytes(self) -> &'a mut [u8]
-        ensures { result.now ≡ self.entry.ram.bytes.now }
+        ensures { result.now ≡ self.entry.bytes.now }
     {
-        let BackedRam { ram } = self;
-        ram.into_bytes()
+        let BackedRam { bytes } = self;
+        bytes
     }
 }
 
 impl Device for BackedRam<'_> {
-    ghost meaning = { λ b. backed b.ram.bytes.now };
+    ghost meaning = { λ ram. backed ram.bytes.now };
 
     fn size(&self) -> u32 {
-        self.ram.size()
+        bytes::size(self.bytes)
     }
 
     fn is_open(&self, place: Place) -> bool {
-        self.ram.is_open(place)
+        bytes::holds(self.bytes, place)
     }
 
     fn read(&self, place: Place) -> Result<u8, Fault> {
-        self.ram.read(place)
+        bytes::read(self.bytes, place)
     }
 
     fn write(&mut self, place: Place, value: u8) -> Result<(), Fault> {
-        self.ram.store(place, value)
+        bytes::write(self.bytes, place, value)
     }
 
     fn lose_power(&mut self) {}

@@ -2,8 +2,8 @@
 #![tactic(auto)]
 
 mod backed;
+mod bytes;
 mod ram;
-mod writing;
 
 pub use backed::BackedRam;
 pub use ram::Ram;

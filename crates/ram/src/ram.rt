@@ -1,12 +1,11 @@
 // RAM over the caller's bytes: every place can be written, and none keeps its byte without power.
-ghost use Rattle.std.specs.Prelude.{◌≡◌, length, take, slice_set};
+ghost use Rattle.std.specs.Prelude.{◌≡◌, length, take};
 ghost use Rattle.ram.specs.Image.{load_at, loaded};
-ghost use Rattle.device.specs.Kinds.{volatile, backed};
-ghost use Rattle.device.specs.Meaning.{write_at};
+ghost use Rattle.device.specs.Kinds.{volatile};
 ghost use Rattle.terms.specs.Limits.{places};
 
-use crate::writing;
-use device::{Device, bytes};
+use crate::bytes;
+use device::Device;
 use terms::{Fault, Place};
 
 #[derive(Drop)]
@@ -30,8 +29,8 @@ impl<'a> Ram<'a> {
         ensures answer { result ≡ load_at (length self.old.bytes.now) start (length image.now) }
         ensures after { self.new.bytes.now ≡ loaded self.old.bytes.now start image.now }
     {
-        writing::check_room(self.bytes.len(), start, image.len())?;
-        writing::copy_front(&mut self.bytes[start..], image);
+        bytes::check_room(self.bytes.len(), start, image.len())?;
+        bytes::copy_front(&mut self.bytes[start..], image);
         Ok(())
     }
 
@@ -40,20 +39,6 @@ impl<'a> Ram<'a> {
     {
         let Ram { bytes } = self;
         bytes
-    }
-
-    // Writes a place; backed RAM has the same places, and they are all writable.
-    pub(crate) fn store(&mut self, place: Place, value: u8) -> Result<(), Fault>
-        ensures answer { result ≡ write_at (backed self.old.bytes.now) place.index }
-        ensures after { self.new.bytes.now ≡ slice_set self.old.bytes.now place.index value }
-    {
-        let at = place.index() as usize;
-        if at < self.bytes.len() {
-            self.bytes[at] = value;
-            Ok(())
-        } else {
-            Err(Fault::NoSuchPlace)
-        }
     }
 }
 
@@ -73,10 +58,10 @@ impl Device for Ram<'_> {
     }
 
     fn write(&mut self, place: Place, value: u8) -> Result<(), Fault> {
-        self.store(place, value)
+        bytes::write(self.bytes, place, value)
     }
 
     fn lose_power(&mut self) {
-        writing::fill(self.bytes, 0xFF);
+        bytes::fill(self.bytes, 0xFF);
     }
 }

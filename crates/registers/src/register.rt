@@ -1,7 +1,7 @@
 // The registers of the power unit, by what they are for.
 ghost use Rattle.std.specs.Prelude.{◌≡◌, ◌<◌, if◌then◌else◌, Some, None, nat_lt};
 ghost use Rattle.std.specs.Option.{option_map};
-ghost use Rattle.registers.specs.Registers.{index, registers};
+ghost use Rattle.registers.specs.Registers.{index, registers, write_protected};
 
 #[derive(Clone, Copy)]
 pub enum Register {
@@ -54,5 +54,19 @@ impl Register {
         ensures bound { result < registers }
     {
         self as usize
+    }
+
+    // CAUSE, the violation's address and the present outputs are not written by a frame.
+    pub fn is_write_protected(self) -> bool
+        ensures { result ≡ write_protected (index self) }
+    {
+        match self {
+            Register::Cause
+            | Register::ViolationLow
+            | Register::ViolationMiddle
+            | Register::ViolationHigh
+            | Register::Outputs => true,
+            _ => false,
+        }
     }
 }

@@ -1,6 +1,9 @@
 // The states of the machine's power. On, Doze and Sleep are awake.
 ghost use Rattle.std.specs.Prelude.{◌≡◌, if◌then◌else◌, Some, None, nat_lt};
-ghost use Rattle.registers.specs.States.{state_number, state_of, asleep};
+ghost use Rattle.registers.specs.States.{state_number, state_of, asleep, is_load};
+ghost use Rattle.registers.specs.Registers.{index};
+
+use super::Register;
 
 #[derive(Clone, Copy, PartialEq)]
 pub enum State {
@@ -38,6 +41,18 @@ impl State {
         match self {
             State::On | State::Doze | State::Sleep => false,
             State::Suspend | State::Off => true,
+        }
+    }
+
+    // Whether the register holds this state's load.
+    pub fn has_load(self, register: Register) -> bool
+        ensures { result ≡ is_load self (index register) }
+    {
+        match (self, register) {
+            (State::On, Register::DozeLoad)
+            | (State::Doze, Register::SleepLoad)
+            | (State::Sleep, Register::SuspendLoad) => true,
+            (_, _) => false,
         }
     }
 }

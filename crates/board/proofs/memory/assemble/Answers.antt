@@ -7,7 +7,7 @@ pub returns : goal.returns
 returns c =
     let even : c.new-ram.result.even.bytes.now ≡ take places c.args.even.now = search rules in
     let odd : c.new-ram.result.odd.bytes.now ≡ take places c.args.odd.now = search rules in
-    let kept : c.protected-card_a.result.device.ram.bytes.now ≡ take places c.args.card.now = search rules in
+    let kept : c.protected-card_a.result.device.bytes.now ≡ take places c.args.card.now = search rules in
     record {
       machine =
           c.new-6.ensures.machine_is

@@ -1,8 +1,25 @@
-// What RAM does to its bytes.
-ghost use Rattle.std.specs.Prelude.{◌≡◌, ℕ, ◌<◌, ◌≤◌, ◌++◌, length, drop, slice_index};
+// What RAM and backed RAM do to their bytes; what any device over bytes reads of them comes with the interface.
+ghost use Rattle.std.specs.Prelude.{◌≡◌, ℕ, ◌<◌, ◌≤◌, ◌++◌, length, drop, slice_index, slice_set};
+ghost use Rattle.device.specs.Kinds.{backed};
+ghost use Rattle.device.specs.Meaning.{write_at};
 ghost use Rattle.ram.specs.Image.{load_at};
 
-use terms::Fault;
+pub use device::bytes::{holds, read, size};
+use terms::{Fault, Place};
+
+// Writes a place of a device whose places are all writable.
+pub fn write(bytes: &mut [u8], place: Place, value: u8) -> Result<(), Fault>
+    ensures answer { result ≡ write_at (backed bytes.old) place.index }
+    ensures after { bytes.new ≡ slice_set bytes.old place.index value }
+{
+    let at = place.index() as usize;
+    if at < bytes.len() {
+        bytes[at] = value;
+        Ok(())
+    } else {
+        Err(Fault::NoSuchPlace)
+    }
+}
 
 // The slice's own `fill`, told byte by byte.
 pub fn fill(bytes: &mut [u8], value: u8)

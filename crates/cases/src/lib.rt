@@ -2,8 +2,6 @@
 #![tactic(auto)]
 
 #[cfg(test)]
-mod board;
-#[cfg(test)]
 mod devices;
 #[cfg(test)]
 mod lines;
@@ -17,3 +15,5 @@ mod refusals;
 mod session;
 #[cfg(test)]
 mod stacks;
+#[cfg(test)]
+mod trial;

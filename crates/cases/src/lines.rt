@@ -1,7 +1,7 @@
 // What is a line, and what is a frame: bytes given to a link, in chunks of several sizes.
 ghost use Rattle.std.specs.Prelude.{◌<◌};
 
-use super::board::{Answers, Trial, on_board};
+use super::trial::{Answers, Trial, on_board};
 use frames::ANSWER_LENGTH;
 use std::process::Abort;
 use std::test::*;

@@ -1,5 +1,5 @@
 // Sessions: what is given to one new engine, line by line, and what each line must be answered.
-use super::board::{Answers, Trial, on_board};
+use super::trial::{Answers, Trial, on_board};
 use frames::ANSWER_LENGTH;
 use std::process::Abort;
 use std::str::from_utf8;

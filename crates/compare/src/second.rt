@@ -1,16 +1,16 @@
 // A second engine, written from the rules alone, apart from the first. It keeps the lines that it was given and decides
 // by looking back over them. Nothing is promised of it but that it is safe: it is what the engine is compared with.
 mod frame;
+mod judging;
 mod past;
-mod rules;
 pub mod stack;
 
 pub use crate::second::frame::Kind;
 use crate::second::frame::{Line, digit_of};
+pub use crate::second::judging::Waker;
+use crate::second::judging::{effect_of, judge, refused_deed, shown_after};
 pub use crate::second::past::State;
 use crate::second::past::{Cause, Deed, Entry, is_cause_pending, present};
-pub use crate::second::rules::Waker;
-use crate::second::rules::{effect_of, judge, refused_deed, shown_after};
 use crate::second::stack::{Board, SOCKETS, Stack};
 use std::alloc::{AllocError, Global};
 

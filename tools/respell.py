@@ -13,9 +13,10 @@ import os
 import re
 import sys
 
-NAME = r"[A-Za-z0-9_'\u00b2-\u00b9\u2080-\u209f]+(?:-[A-Za-z0-9_'\u2080-\u209f]+)+"
+# (a type whose name begins with a capital and has an underscore, as a name of two words that an earlier script joined so, is turned too)
+NAME = r"[A-Z][A-Za-z0-9']*_[A-Za-z0-9_']+|[A-Za-z0-9_'\u00b2-\u00b9\u2080-\u209f]+(?:-[A-Za-z0-9_'\u2080-\u209f]+)+"
 # a name with a dash that stands alone: not a part of a longer name, not after a letter, a dash or a colon
-TOKEN = re.compile(r"(?<![\w'\u00b7-])" + NAME + r"(?![\w'-])")
+TOKEN = re.compile(r"(?<![\w'\u00b7-])(?:" + NAME + r")(?![\w'-])")
 # the snake-case form of this one is a word of the library: a bit of a bit_or, named by its calls
 APART = {"bit-or": "bit-bit_or"}
 LIBRARY = ("Rattle.std.", "mathlib.", "Prim.", "native.", "lib.", "Rattle.io.", "Rattle.libc.", "Rattle.os.")
@@ -62,7 +63,7 @@ def turned(name):
     if name in APART:
         return APART[name]
     if name[0].isupper():
-        return "".join(part[0].upper() + part[1:] for part in name.split("-"))
+        return "".join(part[0].upper() + part[1:] for part in re.split("[-_]", name))
     return name.replace("-", "_")
 
 
@@ -109,7 +110,7 @@ def main(argv):
             text = f.read()
         if not is_lemma_file(path):
             made |= set(re.findall(r"\b[cwlgt]\.(" + NAME + r")", text)) | set(re.findall(r"goal\.(" + NAME + r")", text))
-    names = {n for n in own | local if n not in library and n not in made}
+    names = {n for n in own | local if n not in library and n not in made and n not in APART.values()}
     clash = {}
     for n in names:
         clash.setdefault(turned(n), set()).add(n)

@@ -7,11 +7,11 @@ use Rattle.rules.specs.Machine.{Machine}
 use Rattle.rules.specs.Step.{after, step, answer}
 use Rattle.frames.specs.Spelling.{spelled}
 use Rattle.frames.specs.declared.answer.Answer.{Answer}
-use Rattle.link.specs.Stream.{lines, answers, Stands, Goes_on, said, last_line}
+use Rattle.link.specs.Stream.{lines, answers, Stands, GoesOn, said, last_line}
 use Rattle.link.proofs.Lines.{stands_other, stands_end, said_end, stands_frame, said_frame, lines_other, step_by_kept, answer_by_kept}
 
 -- going on twice
-pub goes_twice : {m m' m'' : Machine} {h h' h'' : List ℕ} (xs ys new more : List ℕ) → Goes_on m h m' h' xs new → Goes_on m' h' m'' h'' ys more → Goes_on m h m'' h'' (xs ++ ys) (new ++ more)
+pub goes_twice : {m m' m'' : Machine} {h h' h'' : List ℕ} (xs ys new more : List ℕ) → GoesOn m h m' h' xs new → GoesOn m' h' m'' h'' ys more → GoesOn m h m'' h'' (xs ++ ys) (new ++ more)
 goes_twice {m'' = m''} {h'' = h''} xs ys new more one two = record {
   stands = λ first bytes s.
       subst (λ (x : List ℕ). Stands first x m'' h'') (append_assoc bytes xs ys) (two.stands first (bytes ++ xs) (one.stands first bytes s));
@@ -23,21 +23,21 @@ goes_twice {m'' = m''} {h'' = h''} xs ys new more one two = record {
 }
 
 -- going nowhere
-pub goes_nowhere : (m : Machine) (h : List ℕ) → Goes_on m h m h [] []
+pub goes_nowhere : (m : Machine) (h : List ℕ) → GoesOn m h m h [] []
 goes_nowhere m h = record {
   stands = λ first bytes s. subst (λ (x : List ℕ). Stands first x m h) (sym (append-nil bytes)) s;
   says = λ first bytes s. append-nil (answers first (lines bytes)) ∙ ap (λ x. answers first (lines x)) (sym (append-nil bytes));
 }
 
 -- a byte that ends no line
-pub goes_other : (m m' : Machine) (h h' : List ℕ) (b : ℕ) → (b ≡ 0x0A → ⊥) → m' ≡ m → h' ≡ take 13 (h ++ b ∷ []) → Goes_on m h m' h' (b ∷ []) []
+pub goes_other : (m m' : Machine) (h h' : List ℕ) (b : ℕ) → (b ≡ 0x0A → ⊥) → m' ≡ m → h' ≡ take 13 (h ++ b ∷ []) → GoesOn m h m' h' (b ∷ []) []
 goes_other m m' h h' b other em eh = record {
   stands = λ first bytes s. stands_other first m m' bytes h h' b other em eh s;
   says = λ first bytes s. append-nil (answers first (lines bytes)) ∙ ap (answers first) (sym (lines_other bytes b other));
 }
 
 -- the end of a line of which some bytes are held
-pub goes_end : (m m' : Machine) (h h' : List ℕ) (b : ℕ) (r : Answer) → b ≡ 0x0A → m' ≡ step m h → h' ≡ [] → r ≡ answer m h → Goes_on m h m' h' (b ∷ []) (spelled r)
+pub goes_end : (m m' : Machine) (h h' : List ℕ) (b : ℕ) (r : Answer) → b ≡ 0x0A → m' ≡ step m h → h' ≡ [] → r ≡ answer m h → GoesOn m h m' h' (b ∷ []) (spelled r)
 goes_end m m' h h' b r ten em eh er = record {
   stands = λ first bytes s. subst (λ (x : ℕ). Stands first (bytes ++ x ∷ []) m' h') (sym ten) (stands_end first m m' bytes h h' em eh s);
   says = λ first bytes s.
@@ -59,7 +59,7 @@ take_line rest n h twelve ten = take_more rest 12 0 h ∙ ap (λ b. take 12 rest
 pub goes_frame : (m m' : Machine) (h h' rest : List ℕ) (r : Answer) (n : ℕ) → 12 < length rest → n ≡ 12 → get_or rest 12 0 ≡ 0x0A → h ≡ [] → h' ≡ []
     → Some r ≡ cond (is_frame (take n rest)) (Some (answer m (take n rest))) None
     → m' ≡ cond (is_frame (take n rest)) (step m (take n rest)) m
-    → Goes_on m h m' h' (take 13 rest) (spelled r)
+    → GoesOn m h m' h' (take 13 rest) (spelled r)
 goes_frame m m' h h' rest r n long twelve ten none none' er em =
     let line : List ℕ = take n rest in
     let f = some_frame (is_frame line) r (answer m line) m m' (step m line) er em in
@@ -82,16 +82,16 @@ none_frame false x m m' n e f = f
 pub goes_whole : (m m' : Machine) (h h' rest : List ℕ) (r : Option Answer) (n : ℕ) → 12 < length rest → n ≡ 12 → get_or rest 12 0 ≡ 0x0A → h ≡ [] → h' ≡ []
     → r ≡ cond (is_frame (take n rest)) (Some (answer m (take n rest))) None
     → m' ≡ cond (is_frame (take n rest)) (step m (take n rest)) m
-    → MatchOption r ((m' ≡ m) × (h' ≡ h)) (λ a. (13 ≤ length rest) × Goes_on m h m' h' (take 13 rest) (spelled a))
+    → MatchOption r ((m' ≡ m) × (h' ≡ h)) (λ a. (13 ≤ length rest) × GoesOn m h m' h' (take 13 rest) (spelled a))
 goes_whole m m' h h' rest None n long twelve ten none none' er em =
     (none_frame (is_frame (take n rest)) (answer m (take n rest)) m m' (step m (take n rest)) er em, none' ∙ sym none)
 goes_whole m m' h h' rest (Some r) n long twelve ten none none' er em = (long, goes_frame m m' h h' rest r n long twelve ten none none' er em)
 
 -- the same from equal beginnings
-pub goes_from : {m m₁ m' : Machine} {h h₁ h' more more₁ new : List ℕ} → m₁ ≡ m → h₁ ≡ h → more₁ ≡ more → Goes_on m₁ h₁ m' h' more₁ new → Goes_on m h m' h' more new
+pub goes_from : {m m₁ m' : Machine} {h h₁ h' more more₁ new : List ℕ} → m₁ ≡ m → h₁ ≡ h → more₁ ≡ more → GoesOn m₁ h₁ m' h' more₁ new → GoesOn m h m' h' more new
 goes_from {m = m} {m' = m'} {h = h} {h₁ = h₁} {h' = h'} {more₁ = more₁} {new = new} em eh e goes =
-    subst (λ (x : List ℕ). Goes_on m h m' h' x new) e
-    (subst (λ (x : List ℕ). Goes_on m x m' h' more₁ new) eh (subst (λ (x : Machine). Goes_on x h₁ m' h' more₁ new) em goes))
+    subst (λ (x : List ℕ). GoesOn m h m' h' x new) e
+    (subst (λ (x : List ℕ). GoesOn m x m' h' more₁ new) eh (subst (λ (x : Machine). GoesOn x h₁ m' h' more₁ new) em goes))
 
 -- the last line, where the input ends in it
 pub finish_machine : (first m m' : Machine) (bytes h : List ℕ) (u : Line) → (h ≡ [] → ⊥) → m ≡ after first (lines bytes) → h ≡ take 13 u → m' ≡ step m h → m' ≡ after first (last_line u ++ lines bytes)
@@ -120,13 +120,13 @@ take_plus (suc i) n (x ∷ xs) = ap (λ k. take k (x ∷ xs)) (suc-add i n) ∙ 
 -- a turn of the loop over a chunk, of which t bytes more are taken
 pub goes_turn : {m m₁ m₂ : Machine} {h h₁ h₂ : List ℕ} (chunk out out' : List ℕ) (r : Option Answer) (at t k w w' : ℕ)
     → t ≤ length (take k (drop at chunk)) → take w' out' ≡ take w out ++ said r
-    → Goes_on m h m₁ h₁ (take at chunk) (take w out) → Goes_on m₁ h₁ m₂ h₂ (take t (take k (drop at chunk))) (said r)
-    → Goes_on m h m₂ h₂ (take (at + t) chunk) (take w' out')
+    → GoesOn m h m₁ h₁ (take at chunk) (take w out) → GoesOn m₁ h₁ m₂ h₂ (take t (take k (drop at chunk))) (said r)
+    → GoesOn m h m₂ h₂ (take (at + t) chunk) (take w' out')
 goes_turn {m = m} {m₂ = m₂} {h = h} {h₂ = h₂} chunk out out' r at t k w w' within front one two =
     let inner : take t (take k (drop at chunk)) ≡ take t (drop at chunk) = take-take t k (drop at chunk) (omega (arith, length-take k (drop at chunk))) in
     let more : take at chunk ++ take t (take k (drop at chunk)) ≡ take (at + t) chunk = ap (λ x. take at chunk ++ x) inner ∙ sym (take_plus at t chunk) in
-    subst (λ (x : List ℕ). Goes_on m h m₂ h₂ (take (at + t) chunk) x) (sym front)
-    (subst (λ (x : List ℕ). Goes_on m h m₂ h₂ x (take w out ++ said r)) more (goes_twice (take at chunk) (take t (take k (drop at chunk))) (take w out) (said r) one two))
+    subst (λ (x : List ℕ). GoesOn m h m₂ h₂ (take (at + t) chunk) x) (sym front)
+    (subst (λ (x : List ℕ). GoesOn m h m₂ h₂ x (take w out ++ said r)) more (goes_twice (take at chunk) (take t (take k (drop at chunk))) (take w out) (said r) one two))
 
 -- what both lists have after w they have after j more
 pub rest_more : (xs ys : List ℕ) (w j : ℕ) → drop w xs ≡ drop w ys → drop (w + j) xs ≡ drop (w + j) ys

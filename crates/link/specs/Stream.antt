@@ -39,7 +39,7 @@ pub record Stands (first : Machine) (bytes : List ℕ) (machine : Machine) (held
 
 -- A link goes on from one machine and part of a line to others by the bytes `more`, and says `new`:
 -- in the words of all bytes so far, it stands where those and these lead, and it has said the answers to the lines that ended
-pub record Goes_on (m : Machine) (held : List ℕ) (m' : Machine) (held' more new : List ℕ) : Type 0 where
+pub record GoesOn (m : Machine) (held : List ℕ) (m' : Machine) (held' more new : List ℕ) : Type 0 where
   pub stands : (first : Machine) (bytes : List ℕ) → Stands first bytes m held → Stands first (bytes ++ more) m' held'
   pub says : (first : Machine) (bytes : List ℕ) → Stands first bytes m held → answers first (lines bytes) ++ new ≡ answers first (lines (bytes ++ more))
 

@@ -6,7 +6,7 @@ ghost use Rattle.frames.specs.Spelling.{spelled};
 ghost use Rattle.device.specs.Meaning.{Meaning};
 ghost use Rattle.rules.specs.Laws.{Lawful};
 ghost use Rattle.machine.specs.View.{view};
-ghost use Rattle.link.specs.Stream.{Stands, Goes_on, said, taken, lines, all_lines, answers};
+ghost use Rattle.link.specs.Stream.{Stands, GoesOn, said, taken, lines, all_lines, answers};
 ghost use Rattle.link.specs.View.{held};
 
 use super::Link;
@@ -71,7 +71,7 @@ impl<R: Device, O: Device, CA: Device, CB: Device> Link<R, O, CA, CB> {
     pub fn receive(&mut self, chunk: &[u8], out: &mut [u8]) -> Progress
         ensures read { result.read ≡ taken chunk.now out.old }
         ensures within { result.written ≤ length out.old }
-        ensures received { Goes_on (view R.Device.meaning O.Device.meaning CA.Device.meaning CB.Device.meaning self.old.engine) (held self.old) (view R.Device.meaning O.Device.meaning CA.Device.meaning CB.Device.meaning self.new.engine) (held self.new) (take result.read chunk.now) (take result.written out.new) }
+        ensures received { GoesOn (view R.Device.meaning O.Device.meaning CA.Device.meaning CB.Device.meaning self.old.engine) (held self.old) (view R.Device.meaning O.Device.meaning CA.Device.meaning CB.Device.meaning self.new.engine) (held self.new) (take result.read chunk.now) (take result.written out.new) }
         ensures rest { drop result.written out.new ≡ drop result.written out.old }
         ensures laws { (ram rom card_a card_b : Meaning) (before : List ℕ) → Stands (fresh ram rom card_a card_b) before (view R.Device.meaning O.Device.meaning CA.Device.meaning CB.Device.meaning self.old.engine) (held self.old) → Lawful (fresh ram rom card_a card_b) (lines (before ++ take result.read chunk.now)) }
     {
@@ -113,7 +113,7 @@ impl<R: Device, O: Device, CA: Device, CB: Device> Link<R, O, CA, CB> {
     // Takes a whole frame, as nearly always, or a byte.
     fn advance(&mut self, rest: &[u8]) -> Advance
         requires { 0 < length rest.now }
-        ensures goes { Goes_on (view R.Device.meaning O.Device.meaning CA.Device.meaning CB.Device.meaning self.old.engine) (held self.old) (view R.Device.meaning O.Device.meaning CA.Device.meaning CB.Device.meaning self.new.engine) (held self.new) (take result.taken rest.now) (said result.answer) }
+        ensures goes { GoesOn (view R.Device.meaning O.Device.meaning CA.Device.meaning CB.Device.meaning self.old.engine) (held self.old) (view R.Device.meaning O.Device.meaning CA.Device.meaning CB.Device.meaning self.new.engine) (held self.new) (take result.taken rest.now) (said result.answer) }
         ensures some { 0 < result.taken }
         ensures within { result.taken ≤ length rest.now }
     {
@@ -131,7 +131,7 @@ impl<R: Device, O: Device, CA: Device, CB: Device> Link<R, O, CA, CB> {
 
     // A whole frame that the bytes begin with, where no line is begun.
     fn whole_frame(&mut self, rest: &[u8]) -> Option<Answer>
-        ensures { MatchOption result ((view R.Device.meaning O.Device.meaning CA.Device.meaning CB.Device.meaning self.new.engine ≡ view R.Device.meaning O.Device.meaning CA.Device.meaning CB.Device.meaning self.old.engine) × (held self.new ≡ held self.old)) (λ a. (13 ≤ length rest.now) × Goes_on (view R.Device.meaning O.Device.meaning CA.Device.meaning CB.Device.meaning self.old.engine) (held self.old) (view R.Device.meaning O.Device.meaning CA.Device.meaning CB.Device.meaning self.new.engine) (held self.new) (take 13 rest.now) (spelled a)) }
+        ensures { MatchOption result ((view R.Device.meaning O.Device.meaning CA.Device.meaning CB.Device.meaning self.new.engine ≡ view R.Device.meaning O.Device.meaning CA.Device.meaning CB.Device.meaning self.old.engine) × (held self.new ≡ held self.old)) (λ a. (13 ≤ length rest.now) × GoesOn (view R.Device.meaning O.Device.meaning CA.Device.meaning CB.Device.meaning self.old.engine) (held self.old) (view R.Device.meaning O.Device.meaning CA.Device.meaning CB.Device.meaning self.new.engine) (held self.new) (take 13 rest.now) (spelled a)) }
     {
         if self.len == 0 && rest.len() > 12 && rest[12] == b'\n' {
             self.engine.frame_of_digits(&rest[0..12])
@@ -141,7 +141,7 @@ impl<R: Device, O: Device, CA: Device, CB: Device> Link<R, O, CA, CB> {
     }
 
     fn next_byte(&mut self, b: u8) -> Option<Answer>
-        ensures { Goes_on (view R.Device.meaning O.Device.meaning CA.Device.meaning CB.Device.meaning self.old.engine) (held self.old) (view R.Device.meaning O.Device.meaning CA.Device.meaning CB.Device.meaning self.new.engine) (held self.new) (b ∷ []) (said result) }
+        ensures { GoesOn (view R.Device.meaning O.Device.meaning CA.Device.meaning CB.Device.meaning self.old.engine) (held self.old) (view R.Device.meaning O.Device.meaning CA.Device.meaning CB.Device.meaning self.new.engine) (held self.new) (b ∷ []) (said result) }
     {
         if b == b'\n' {
             return Some(self.end_line());

@@ -97,11 +97,15 @@ fn a_pair_of_chips_of_one_byte_ends_at_its_second_place(rt: HostRuntime) -> Resu
 
 #[test]
 fn a_flag_closes_a_place_and_leaves_its_byte(rt: HostRuntime) -> Result<(), Fail> {
-    let mut bytes = [10, 99];
-    let mut guard = Guard::new(Ram::new(&mut bytes), SegmentSize::Places4096);
-    assert!(rt; guard.is_open(place(1)?));
-    assert!(rt; guard.protect(0).is_ok());
-    assert!(rt; matches!(guard.write(place(1)?, 1), Err(Fault::WriteProtected)));
-    assert!(rt; matches!(guard.read(place(1)?), Ok(99)));
+    let mut ram = [10, 11, 12];
+    let rom = [20, 21];
+    let guarded = Guard::new(Ram::new(&mut ram), SegmentSize::Places2048);
+    let pair = Pair::new(guarded, Rom::new(&rom));
+    let mut stack = Guard::new(pair, SegmentSize::Places4096);
+    assert!(rt; matches!(stack.write(place(2)?, 99), Ok(())));
+    assert!(rt; stack.is_open(place(2)?));
+    assert!(rt; stack.protect(0).is_ok());
+    assert!(rt; matches!(stack.write(place(2)?, 1), Err(Fault::WriteProtected)));
+    assert!(rt; matches!(stack.read(place(2)?), Ok(99)));
     Ok(())
 }

@@ -110,47 +110,56 @@ struct Chunked<'a> {
 impl Trial for Chunked<'_> {
     fn run(self, rt: &impl Abort, link: &mut impl Answers) -> Result<(), Fail> {
         let Stream(input, answers) = self.stream;
-        let mut expected = Expected(answers);
+        let mut expected = Expected {
+            answers,
+            trial: self,
+        };
         for chunk in input.chunks(self.size) {
-            let met = expected.meets_chunk(link, chunk);
-            assert!(rt; met, "stream {} in chunks of {}", self.number, self.size);
+            expected.meet_chunk(rt, link, chunk);
         }
-        let ended = expected.meets_end(link);
-        assert!(rt;
-            ended,
-            "the end of stream {} in chunks of {}",
-            self.number, self.size
-        );
+        expected.meet_end(rt, link);
         Ok(())
     }
 }
 
-// What is still to be answered.
+// What is still to be answered in a trial.
 #[derive(Drop)]
-struct Expected<'a>(&'a [u8]);
+struct Expected<'a> {
+    answers: &'a [u8],
+    trial: Chunked<'a>,
+}
 
 impl Expected<'_> {
-    fn meets_chunk(&mut self, link: &mut impl Answers, chunk: &[u8]) -> bool {
+    fn meet_chunk(&mut self, rt: &impl Abort, link: &mut impl Answers, chunk: &[u8]) {
         let mut out = [0; ROOM];
         let n = link.answer(chunk, &mut out);
-        self.meets(&out[0..n])
+        self.meet(rt, &out[0..n]);
     }
 
-    fn meets_end(&self, link: &mut impl Answers) -> bool {
+    fn meet_end(&self, rt: &impl Abort, link: &mut impl Answers) {
+        let Chunked { number, size, .. } = self.trial;
         match link.answer_end() {
-            Some(answer) => self.0 == answer.as_slice(),
-            None => self.0.is_empty(),
+            Some(answer) => {
+                assert!(rt;
+                    self.answers == answer.as_slice(),
+                    "the end of stream {number} in chunks of {size}"
+                );
+            }
+            None => {
+                assert!(rt;
+                    self.answers.is_empty(),
+                    "no end of stream {number} in chunks of {size}"
+                );
+            }
         }
     }
 
     // Takes off what is answered now.
-    fn meets(&mut self, answers: &[u8]) -> bool {
-        match self.0.strip_prefix(answers) {
-            Some(rest) => {
-                self.0 = rest;
-                true
-            }
-            None => false,
+    fn meet(&mut self, rt: &impl Abort, answers: &[u8]) {
+        let Chunked { number, size, .. } = self.trial;
+        match self.answers.strip_prefix(answers) {
+            Some(rest) => self.answers = rest,
+            None => panic!(rt; "another answer is expected of stream {number} in chunks of {size}"),
         }
     }
 }

@@ -1,5 +1,5 @@
 -- What the program's own types stand for: a command is a frame, and the fields are those of a line.
-use Rattle.std.specs.Prelude.{ℕ, Bool, cond, Ok, Err, Result}
+use Rattle.std.specs.Prelude.{ℕ, Bool, cond}
 use Rattle.registers.specs.Registers.{index}
 use Rattle.registers.specs.declared.event.Event.TheVariants as event
 use Rattle.frames.specs.Lines.{Line, kind_field, a_field, v_field}
@@ -36,8 +36,3 @@ frame_of (command.Input (event.Ac b)) = frame kind.Ac 0 (level b)
 -- the three numbers of a line
 abbrev pub fields_of : Line → Fields
 fields_of l = record { kind = kind_field l; a = a_field l; v = v_field l }
-
--- a result, with another value in an Ok
-abbrev pub ok_map : {X Y E : Type 0} → (X → Y) → Result X E → Result Y E
-ok_map f (Ok x) = Ok (f x)
-ok_map f (Err e) = Err e

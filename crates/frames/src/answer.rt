@@ -5,7 +5,7 @@ ghost use Rattle.frames.specs.Spelling.{number_of, value_of, digit_byte, two_dig
 use registers::State;
 use terms::Refusal;
 
-#[derive(Clone, Copy)]
+#[derive(Clone, Copy, Debug, PartialEq, Eq)]
 pub struct Answer {
     // The value read, 0 where nothing is read, or why the line was refused.
     pub outcome: Result<u16, Refusal>,
@@ -31,10 +31,7 @@ impl Answer {
     pub fn value(&self) -> u16
         ensures { result ≡ value_of self.now.outcome }
     {
-        match self.outcome {
-            Ok(value) => value,
-            Err(_) => 0,
-        }
+        self.outcome.unwrap_or(0)
     }
 
     // Number, value read, state, outputs, NMI, and the end of the line.

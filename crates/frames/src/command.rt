@@ -2,7 +2,7 @@
 use registers::{Event, Register};
 use terms::{CpuAddress, CpuPage};
 
-#[derive(Clone, Copy)]
+#[derive(Clone, Copy, Debug, PartialEq, Eq)]
 pub enum Command {
     Reset,
     RegisterWrite(Register, u8),

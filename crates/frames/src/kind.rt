@@ -1,8 +1,12 @@
 // The kinds of frames, and what their fields may hold: one table, in specs/Kinds.antt.
 ghost use Rattle.std.specs.Prelude.{◌≡◌};
+ghost use Rattle.std.specs.Option.{ok_or};
 ghost use Rattle.frames.specs.Kinds.{kind_of, a_top, v_top};
+ghost use Rattle.terms.specs.declared.refusal.Refusal.TheVariants.{UnknownKind};
 
-#[derive(Clone, Copy)]
+use terms::Refusal;
+
+#[derive(Clone, Copy, Debug, PartialEq, Eq)]
 pub enum Kind {
     Reset = 0x00,
     RegisterWrite = 0x01,
@@ -20,30 +24,34 @@ pub enum Kind {
     Ac = 0x16,
 }
 
-impl Kind {
-    // The kind of that number, if it is listed.
-    pub(crate) fn new(number: u32) -> Option<Kind>
-        ensures { result ≡ kind_of number }
-    {
+// The kind of that number, if it is listed.
+impl TryFrom<u32> for Kind {
+    type Error = Refusal;
+
+    ghost try_from_gives = { λ number r. r ≡ ok_or (kind_of number) UnknownKind };
+
+    fn try_from(number: u32) -> Result<Self, Refusal> {
         match number {
-            0x00 => Some(Kind::Reset),
-            0x01 => Some(Kind::RegisterWrite),
-            0x02 => Some(Kind::RegisterRead),
-            0x03 => Some(Kind::PageWrite),
-            0x04 => Some(Kind::PageRead),
-            0x05 => Some(Kind::CpuWrite),
-            0x06 => Some(Kind::CpuRead),
-            0x10 => Some(Kind::Tick),
-            0x11 => Some(Kind::Activity),
-            0x12 => Some(Kind::Ext),
-            0x13 => Some(Kind::Ring),
-            0x14 => Some(Kind::Alarm),
-            0x15 => Some(Kind::Battery),
-            0x16 => Some(Kind::Ac),
-            _ => None,
+            0x00 => Ok(Kind::Reset),
+            0x01 => Ok(Kind::RegisterWrite),
+            0x02 => Ok(Kind::RegisterRead),
+            0x03 => Ok(Kind::PageWrite),
+            0x04 => Ok(Kind::PageRead),
+            0x05 => Ok(Kind::CpuWrite),
+            0x06 => Ok(Kind::CpuRead),
+            0x10 => Ok(Kind::Tick),
+            0x11 => Ok(Kind::Activity),
+            0x12 => Ok(Kind::Ext),
+            0x13 => Ok(Kind::Ring),
+            0x14 => Ok(Kind::Alarm),
+            0x15 => Ok(Kind::Battery),
+            0x16 => Ok(Kind::Ac),
+            _ => Err(Refusal::UnknownKind),
         }
     }
+}
 
+impl Kind {
     // The largest a; 0 where the field is unused.
     pub(crate) fn a_top(self) -> u32
         ensures { result ≡ a_top self }

@@ -1,16 +1,17 @@
 // A line taken apart: digits, fields, and the command that they make.
-ghost use Rattle.std.specs.Prelude.{◌≡◌, ◌+◌, ◌*◌, ◌<◌, ◌≤◌, Bool, if◌then◌else◌, Some, None, Ok, Err};
-ghost use Rattle.frames.specs.Lines.{digit, all_digits, is_frame};
+ghost use Rattle.std.specs.Prelude.{◌≡◌, ◌+◌, ◌*◌, ◌<◌, ◌≤◌, ◌&&◌, IfSome, if◌then◌else◌, Some, None, Ok, Err};
+ghost use Rattle.frames.specs.Lines.{digit, is_digit, is_frame};
 ghost use Rattle.frames.specs.Kinds.{kind_of, a_top, v_top};
 ghost use Rattle.frames.specs.Decode.{checked, listed, decoded};
-ghost use Rattle.frames.specs.Frames.{fields_of, frame_of, ok_map};
+ghost use Rattle.frames.specs.Frames.{fields_of, frame_of};
+ghost use Rattle.terms.specs.Results.{ok_map};
 
 use super::{Command, Kind};
 use registers::{Event, Register, Source};
 use terms::{CpuAddress, CpuPage, Refusal};
 
 // The three numbers of a frame.
-#[derive(Clone, Copy)]
+#[derive(Clone, Copy, Debug, PartialEq, Eq)]
 pub struct Fields {
     kind: u32,
     a: u32,
@@ -21,66 +22,57 @@ pub struct Fields {
 pub fn decode(line: &[u8]) -> Result<Command, Refusal>
     ensures { ok_map frame_of result ≡ decoded line.now }
 {
-    match cut(line) {
-        Some(fields) => interpret(fields),
-        None => Err(Refusal::NotAFrame),
-    }
+    let fields = cut(line).ok_or(Refusal::NotAFrame)?;
+    interpret(fields)
 }
 
 pub fn interpret(fields: Fields) -> Result<Command, Refusal>
     ensures { ok_map frame_of result ≡ listed (kind_of fields.kind) fields.a fields.v }
 {
-    match Kind::new(fields.kind) {
-        Some(kind) => command(kind, fields.a, fields.v),
-        None => Err(Refusal::UnknownKind),
-    }
+    let kind = Kind::try_from(fields.kind)?;
+    command(kind, fields.a, fields.v)
 }
 
 // The fields of a line of twelve digits.
+#[tactic(auto, using(crate::proofs::Digits::twelve))]
 pub fn cut(line: &[u8]) -> Option<Fields>
     ensures { result ≡ (if is_frame line.now then Some (fields_of line.now) else None) }
 {
     let [k1, k0, a5, a4, a3, a2, a1, a0, v3, v2, v1, v0] = line else {
         return None;
     };
-    if !all_digits(line) {
-        return None;
-    }
     Some(Fields {
-        kind: byte(*k1, *k0),
-        a: byte(*a5, *a4) * 0x10000 + byte(*a3, *a2) * 0x100 + byte(*a1, *a0),
-        v: byte(*v3, *v2) * 0x100 + byte(*v1, *v0),
+        kind: byte(*k1, *k0)?,
+        a: byte(*a5, *a4)? * 0x10000 + word(*a3, *a2, *a1, *a0)?,
+        v: word(*v3, *v2, *v1, *v0)?,
     })
 }
 
-// Looks at every byte, since a test for each is slower than none.
-fn all_digits(line: &[u8]) -> bool
-    ensures { result ≡ all_digits line.now }
+// The value of four digits.
+fn word(d3: u8, d2: u8, d1: u8, d0: u8) -> Option<u32>
+    ensures bound { IfSome result (λ n. n < 0x10000) }
+    ensures value { result ≡ (if is_digit d3 && (is_digit d2 && (is_digit d1 && is_digit d0)) then Some (digit d3 * 0x1000 + digit d2 * 0x100 + digit d1 * 0x10 + digit d0) else None) }
 {
-    let mut digits = true;
-    for b in line {
-        digits = digits & (digit(*b) < 16);
-    }
-    digits
+    Some(byte(d3, d2)? * 0x100 + byte(d1, d0)?)
 }
 
 // The value of two digits.
-fn byte(high: u8, low: u8) -> u32
-    ensures value { result ≡ digit high * 0x10 + digit low }
-    ensures bound { result ≤ 272 }
+fn byte(high: u8, low: u8) -> Option<u32>
+    ensures bound { IfSome result (λ n. n < 0x100) }
+    ensures value { result ≡ (if is_digit high && is_digit low then Some (digit high * 0x10 + digit low) else None) }
 {
-    u32::from(digit(high)) * 0x10 + u32::from(digit(low))
+    Some(digit(high)? * 0x10 + digit(low)?)
 }
 
-// The value of a digit, 0-9 and A-F; 16 for any other byte.
-fn digit(b: u8) -> u8
-    ensures value { result ≡ digit b }
-    ensures bound { result ≤ 16 }
+// The value of a digit, 0-9 and A-F.
+fn digit(b: u8) -> Option<u32>
+    ensures bound { IfSome result (λ n. n < 0x10) }
+    ensures value { result ≡ (if is_digit b then Some (digit b) else None) }
 {
     match b {
-        b'0'..=b'9' => b - b'0',
-        b'A'..=b'F' => b - b'A' + 10,
-        _ => 16,
+        b'0'..=b'9' => Some(u32::from(b - b'0')),
+        b'A'..=b'F' => Some(u32::from(b - b'A') + 10),
+        _ => None,
     }
 }
 
@@ -116,27 +108,14 @@ fn build(kind: Kind, a: u32, v: u32) -> Result<Command, Refusal>
 {
     match kind {
         Kind::Reset => Ok(Command::Reset),
-        Kind::RegisterWrite => Ok(Command::RegisterWrite(
-            Register::new(a).ok_or(Refusal::IndexTooLarge)?,
-            v as u8,
-        )),
-        Kind::RegisterRead => Ok(Command::RegisterRead(Register::new(a).ok_or(
-            Refusal::IndexTooLarge,
-        )?)),
-        Kind::PageWrite => Ok(Command::PageWrite(
-            CpuPage::new(a).ok_or(Refusal::IndexTooLarge)?,
-            v as u16,
-        )),
-        Kind::PageRead => Ok(Command::PageRead(CpuPage::new(a).ok_or(Refusal::IndexTooLarge)?)),
-        Kind::CpuWrite => Ok(Command::CpuWrite(
-            CpuAddress::new(a).ok_or(Refusal::IndexTooLarge)?,
-            v as u8,
-        )),
-        Kind::CpuRead => Ok(Command::CpuRead(CpuAddress::new(a).ok_or(Refusal::IndexTooLarge)?)),
+        Kind::RegisterWrite => Ok(Command::RegisterWrite(Register::try_from(a)?, v as u8)),
+        Kind::RegisterRead => Ok(Command::RegisterRead(Register::try_from(a)?)),
+        Kind::PageWrite => Ok(Command::PageWrite(CpuPage::try_from(a)?, v as u16)),
+        Kind::PageRead => Ok(Command::PageRead(CpuPage::try_from(a)?)),
+        Kind::CpuWrite => Ok(Command::CpuWrite(CpuAddress::try_from(a)?, v as u8)),
+        Kind::CpuRead => Ok(Command::CpuRead(CpuAddress::try_from(a)?)),
         Kind::Tick => Ok(Command::Input(Event::Tick)),
-        Kind::Activity => Ok(Command::Input(Event::Activity(Source::new(a).ok_or(
-            Refusal::IndexTooLarge,
-        )?))),
+        Kind::Activity => Ok(Command::Input(Event::Activity(Source::try_from(a)?))),
         Kind::Ext => Ok(Command::Input(Event::Ext(v == 1))),
         Kind::Ring => Ok(Command::Input(Event::Ring(v == 1))),
         Kind::Alarm => Ok(Command::Input(Event::Alarm)),

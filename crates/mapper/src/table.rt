@@ -13,7 +13,7 @@ pub struct PageTable {
 }
 
 // Where an address leads: a place of a socket's device, through a page that may be read-only.
-#[derive(Clone, Copy)]
+#[derive(Clone, Copy, Debug, PartialEq, Eq)]
 pub struct Located {
     pub socket: Socket,
     pub place: Place,
@@ -52,8 +52,8 @@ impl PageTable {
             return None;
         }
         Some(Located {
-            socket: Socket::new(parts.socket)?,
-            place: Place::new(u32::from(parts.page) * PAGE_SIZE + address.offset())?,
+            socket: Socket::try_from(parts.socket).ok()?,
+            place: Place::try_from(u32::from(parts.page) * PAGE_SIZE + address.offset()).ok()?,
             readonly: parts.readonly,
         })
     }

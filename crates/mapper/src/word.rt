@@ -1,13 +1,14 @@
 // A page word and its parts.
-ghost use Rattle.std.specs.Prelude.{◌≡◌, IfOk, if◌then◌else◌, Some, None, Ok, nat_lt};
-ghost use Rattle.std.specs.Option.{option_map};
+ghost use Rattle.std.specs.Prelude.{◌≡◌, IfOk, if◌then◌else◌, Ok, Err, nat_lt};
 ghost use Rattle.mapper.specs.Words.{sockets, split, join};
 ghost use Rattle.mapper.specs.Translation.{socket_number};
+ghost use Rattle.terms.specs.Results.{ok_map};
+ghost use Rattle.terms.specs.declared.refusal.Refusal.TheVariants.{IndexTooLarge};
 
 use terms::{PAGE_SIZE, PLACES, Refusal};
 
 // A socket takes one device; the engine has four.
-#[derive(Clone, Copy)]
+#[derive(Clone, Copy, Debug, PartialEq, Eq)]
 pub enum Socket {
     Ram = 0,
     Rom = 1,
@@ -17,26 +18,30 @@ pub enum Socket {
 
 const SOCKETS: u8 = 4;
 
-impl Socket {
-    // The socket of that number, if there is one.
-    pub fn new(number: u8) -> Option<Socket>
-        ensures { option_map socket_number result ≡ (if nat_lt number sockets then Some number else None) }
-    {
+// The socket of that number, if there is one.
+impl TryFrom<u8> for Socket {
+    type Error = Refusal;
+
+    ghost try_from_gives = { λ number r. ok_map socket_number r ≡ (if nat_lt number sockets then Ok number else Err IndexTooLarge) };
+
+    fn try_from(number: u8) -> Result<Self, Refusal> {
         match number {
-            0 => Some(Socket::Ram),
-            1 => Some(Socket::Rom),
-            2 => Some(Socket::CardA),
-            3 => Some(Socket::CardB),
-            _ => None,
+            0 => Ok(Socket::Ram),
+            1 => Ok(Socket::Rom),
+            2 => Ok(Socket::CardA),
+            3 => Ok(Socket::CardB),
+            _ => Err(Refusal::IndexTooLarge),
         }
     }
 }
 
 // What a page word says of its page. The device page is counted in pages of the device.
-#[derive(Clone, Copy)]
+#[derive(Clone, Copy, Debug, PartialEq, Eq)]
 pub struct PageParts {
+    // No Option of the rest: a word that is not mapped has the other parts too, and none is lost.
     pub mapped: bool,
     pub readonly: bool,
+    // A number, since the parts come from outside: `join` refuses what no socket has.
     pub socket: u8,
     pub page: u16,
 }

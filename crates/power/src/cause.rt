@@ -2,7 +2,7 @@
 ghost use Rattle.std.specs.Prelude.{◌≡◌, ◌^◌, ◌<◌};
 ghost use Rattle.power.specs.Causes.{position, maskable};
 
-#[derive(Clone, Copy)]
+#[derive(Clone, Copy, Debug, PartialEq, Eq)]
 pub enum Cause {
     Doze = 0,
     Sleep = 1,
@@ -14,7 +14,7 @@ pub enum Cause {
 }
 
 impl Cause {
-    // The bit of CAUSE, and of MASK, that stands for it.
+    // The bit of CAUSE, and of MASK, that stands for it. A method and no `From`: its name says what the byte is.
     pub(crate) fn position(self) -> u8
         ensures position { result ≡ position self }
         ensures bound { result < 8 }
@@ -26,15 +26,7 @@ impl Cause {
     pub(crate) fn flag(self) -> u8
         ensures { result ≡ 2 ^ position self }
     {
-        match self {
-            Cause::Doze => 0x01,
-            Cause::Sleep => 0x02,
-            Cause::Suspend => 0x04,
-            Cause::Ext => 0x08,
-            Cause::Battery => 0x10,
-            Cause::Violation => 0x20,
-            Cause::Activity => 0x40,
-        }
+        1 << self.position()
     }
 
     // Activity cannot be masked.

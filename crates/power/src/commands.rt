@@ -1,11 +1,12 @@
 // Making the unit, its registers, states and causes.
-ghost use Rattle.std.specs.Prelude.{◌≡◌, ◌<◌, true, false, if◌then◌else◌, ◌==◌, slice_index};
+ghost use Rattle.std.specs.Prelude.{◌≡◌, ◌<◌, true, false, Ok, Err, if◌then◌else◌, ◌==◌, slice_index};
 ghost use Rattle.registers.specs.States.{asleep};
 ghost use Rattle.registers.specs.Registers.{index, bit};
 ghost use Rattle.power.specs.Power.{cause, put, reloaded, entered, reset};
 ghost use Rattle.power.specs.Causes.{raised, violated};
 ghost use Rattle.power.specs.Commands.{read_answer, read_done, write_answer, write_done};
 ghost use Rattle.power.specs.View.{view};
+ghost use Rattle.terms.specs.declared.refusal.Refusal.TheVariants.{Asleep};
 
 use super::{Cause, PowerUnit};
 use registers::{Register, State};
@@ -37,14 +38,22 @@ impl PowerUnit {
         }
     }
 
+    // Refuses what the processor asks for in Suspend and Off.
+    pub fn check_awake(&self) -> Result<(), Refusal>
+        ensures { result ≡ (if asleep (view self.now).state then Err Asleep else Ok tt) }
+    {
+        if self.state.asleep() {
+            return Err(Refusal::Asleep);
+        }
+        Ok(())
+    }
+
     // What a frame reads of the register. CAUSE is cleared by it.
     pub fn read(&mut self, register: Register) -> Result<u8, Refusal>
         ensures answer { result ≡ read_answer (index register) (view self.old) }
         ensures after { view self.new ≡ read_done (index register) (view self.old) }
     {
-        if self.state.asleep() {
-            return Err(Refusal::Asleep);
-        }
+        self.check_awake()?;
         match register {
             Register::State => Ok(self.state.number()),
             Register::Outputs => Ok(self.outputs()),
@@ -82,9 +91,7 @@ impl PowerUnit {
         ensures answer { result ≡ write_answer 0x00 number (view self.old) }
         ensures after { view self.new ≡ write_done 0x00 number (view self.old) }
     {
-        let Some(state) = State::new(number) else {
-            return Err(Refusal::ValueTooLarge);
-        };
+        let state = State::try_from(number)?;
         match (self.state, state) {
             (State::Suspend | State::Off, _) => Err(Refusal::Asleep),
             (_, State::Suspend | State::Off) if self.interrupts() => Err(Refusal::CausePending),
@@ -100,9 +107,7 @@ impl PowerUnit {
         ensures answer { result ≡ write_answer (index register) value (view self.old) }
         ensures after { view self.new ≡ write_done (index register) value (view self.old) }
     {
-        if self.state.asleep() {
-            return Err(Refusal::Asleep);
-        }
+        self.check_awake()?;
         if register.is_write_protected() {
             return Err(Refusal::RegisterNotWritable);
         }

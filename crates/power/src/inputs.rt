@@ -1,8 +1,10 @@
 // What a tick or an input does, by the state that it meets.
-ghost use Rattle.std.specs.Prelude.{◌≡◌, false, not, ◌&&◌};
+ghost use Rattle.std.specs.Prelude.{◌≡◌, false, not, ◌&&◌, if◌then◌else◌};
 ghost use Rattle.registers.specs.States.{asleep};
 ghost use Rattle.power.specs.Inputs.{sampled, held, expired, counted, stirred, active, pressed, ext_given, ring_given, battery_given, ticked, happened};
-ghost use Rattle.power.specs.Causes.{position};
+ghost use Rattle.registers.specs.Registers.{bit};
+ghost use Rattle.power.specs.Power.{mask, entered};
+ghost use Rattle.power.specs.Causes.{position, raised};
 ghost use Rattle.power.specs.View.{view};
 
 use super::commands::bit;
@@ -79,22 +81,22 @@ impl PowerUnit {
         ensures { view self.new ≡ expired self.old.state (view self.old) }
     {
         match self.state {
-            State::On => {
-                if bit(Cause::Doze.position(), self.get(Register::Mask)) {
-                    self.enter(State::Doze);
-                } else {
-                    self.raise(Cause::Doze);
-                }
-            }
-            State::Doze => {
-                if bit(Cause::Sleep.position(), self.get(Register::Mask)) {
-                    self.enter(State::Sleep);
-                } else {
-                    self.raise(Cause::Sleep);
-                }
-            }
+            State::On => self.fall(State::Doze, Cause::Doze),
+            State::Doze => self.fall(State::Sleep, Cause::Sleep),
             State::Sleep => self.raise(Cause::Suspend),
             State::Suspend | State::Off => {}
+        }
+    }
+
+    // The idle counter has run out in On or Doze: the next state where its cause is masked, else an interrupt.
+    fn fall(&mut self, next: State, cause: Cause)
+        requires { (asleep self.old.state ≡ false) × (asleep next ≡ false) }
+        ensures { view self.new ≡ (if bit (position cause) (mask (view self.old)) then entered next (view self.old) else raised cause (view self.old)) }
+    {
+        if bit(cause.position(), self.get(Register::Mask)) {
+            self.enter(next);
+        } else {
+            self.raise(cause);
         }
     }
 

@@ -1,28 +1,35 @@
 // What reaches the power unit from outside, besides commands.
-ghost use Rattle.std.specs.Prelude.{◌≡◌, ◌<◌, if◌then◌else◌, Some, None, nat_lt};
-ghost use Rattle.std.specs.Option.{option_map};
+ghost use Rattle.std.specs.Prelude.{◌≡◌, ◌<◌, if◌then◌else◌, Ok, Err, nat_lt};
+ghost use Rattle.terms.specs.Results.{ok_map};
+ghost use Rattle.terms.specs.declared.refusal.Refusal.TheVariants.{IndexTooLarge};
+
+use terms::Refusal;
 
 // One of the eight sources of activity; ACTMASK has a bit for each.
-#[derive(Clone, Copy)]
+#[derive(Clone, Copy, Debug, PartialEq, Eq)]
 pub struct Source {
     number: u8,
     ghost fits: { number < 8 },
 }
 
-impl Source {
-    // The source of that number, if there is one.
-    pub fn new(number: u32) -> Option<Source>
-        ensures { option_map (λ s. s.number) result ≡ (if nat_lt number 8 then Some number else None) }
-    {
+// The source of that number, if there is one.
+impl TryFrom<u32> for Source {
+    type Error = Refusal;
+
+    ghost try_from_gives = { λ number r. ok_map (λ s. s.number) r ≡ (if nat_lt number 8 then Ok number else Err IndexTooLarge) };
+
+    fn try_from(number: u32) -> Result<Self, Refusal> {
         if number < 8 {
-            Some(Source {
+            Ok(Source {
                 number: number as u8,
             })
         } else {
-            None
+            Err(Refusal::IndexTooLarge)
         }
     }
+}
 
+impl Source {
     pub fn number(self) -> u8
         ensures { result ≡ self.number }
     {
@@ -30,7 +37,7 @@ impl Source {
     }
 }
 
-#[derive(Clone, Copy)]
+#[derive(Clone, Copy, Debug, PartialEq, Eq)]
 pub enum Event {
     // One sample at 32 Hz.
     Tick,

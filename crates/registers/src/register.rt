@@ -1,9 +1,12 @@
 // The registers of the power unit, by what they are for.
-ghost use Rattle.std.specs.Prelude.{◌≡◌, ◌<◌, if◌then◌else◌, Some, None, nat_lt};
-ghost use Rattle.std.specs.Option.{option_map};
+ghost use Rattle.std.specs.Prelude.{◌≡◌, ◌<◌, if◌then◌else◌, Ok, Err, nat_lt};
 ghost use Rattle.registers.specs.Registers.{index, registers, write_protected};
+ghost use Rattle.terms.specs.Results.{ok_map};
+ghost use Rattle.terms.specs.declared.refusal.Refusal.TheVariants.{IndexTooLarge};
 
-#[derive(Clone, Copy)]
+use terms::Refusal;
+
+#[derive(Clone, Copy, Debug, PartialEq, Eq)]
 pub enum Register {
     State = 0x00,
     DozeLoad = 0x01,
@@ -23,32 +26,37 @@ pub enum Register {
     Outputs = 0x0F,
 }
 
-impl Register {
-    // The register of that index, if there is one.
-    pub fn new(number: u32) -> Option<Register>
-        ensures { option_map index result ≡ (if nat_lt number registers then Some number else None) }
-    {
+// The register of that index, if there is one.
+impl TryFrom<u32> for Register {
+    type Error = Refusal;
+
+    ghost try_from_gives = { λ number r. ok_map index r ≡ (if nat_lt number registers then Ok number else Err IndexTooLarge) };
+
+    fn try_from(number: u32) -> Result<Self, Refusal> {
         match number {
-            0x00 => Some(Register::State),
-            0x01 => Some(Register::DozeLoad),
-            0x02 => Some(Register::SleepLoad),
-            0x03 => Some(Register::SuspendLoad),
-            0x04 => Some(Register::Mask),
-            0x05 => Some(Register::Cause),
-            0x06 => Some(Register::Wake),
-            0x07 => Some(Register::ActivityMask),
-            0x08 => Some(Register::OnOutputs),
-            0x09 => Some(Register::DozeOutputs),
-            0x0A => Some(Register::SleepOutputs),
-            0x0B => Some(Register::SuspendOutputs),
-            0x0C => Some(Register::ViolationLow),
-            0x0D => Some(Register::ViolationMiddle),
-            0x0E => Some(Register::ViolationHigh),
-            0x0F => Some(Register::Outputs),
-            _ => None,
+            0x00 => Ok(Register::State),
+            0x01 => Ok(Register::DozeLoad),
+            0x02 => Ok(Register::SleepLoad),
+            0x03 => Ok(Register::SuspendLoad),
+            0x04 => Ok(Register::Mask),
+            0x05 => Ok(Register::Cause),
+            0x06 => Ok(Register::Wake),
+            0x07 => Ok(Register::ActivityMask),
+            0x08 => Ok(Register::OnOutputs),
+            0x09 => Ok(Register::DozeOutputs),
+            0x0A => Ok(Register::SleepOutputs),
+            0x0B => Ok(Register::SuspendOutputs),
+            0x0C => Ok(Register::ViolationLow),
+            0x0D => Ok(Register::ViolationMiddle),
+            0x0E => Ok(Register::ViolationHigh),
+            0x0F => Ok(Register::Outputs),
+            _ => Err(Refusal::IndexTooLarge),
         }
     }
+}
 
+impl Register {
+    // A method and no `From`: its name says what the number is.
     pub fn index(self) -> usize
         ensures index { result ≡ index self }
         ensures bound { result < registers }

@@ -1,11 +1,13 @@
 // The states of the machine's power. On, Doze and Sleep are awake.
-ghost use Rattle.std.specs.Prelude.{◌≡◌, if◌then◌else◌, Some, None, nat_lt};
+ghost use Rattle.std.specs.Prelude.{◌≡◌, if◌then◌else◌, Ok, Err, nat_lt};
 ghost use Rattle.registers.specs.States.{state_number, state_of, asleep, is_load};
 ghost use Rattle.registers.specs.Registers.{index};
+ghost use Rattle.terms.specs.declared.refusal.Refusal.TheVariants.{ValueTooLarge};
 
 use super::Register;
+use terms::Refusal;
 
-#[derive(Clone, Copy, PartialEq)]
+#[derive(Clone, Copy, Debug, PartialEq, Eq)]
 pub enum State {
     On = 0,
     Doze = 1,
@@ -14,21 +16,26 @@ pub enum State {
     Off = 4,
 }
 
-impl State {
-    // The state of that number, if there is one.
-    pub fn new(number: u8) -> Option<State>
-        ensures { result ≡ (if nat_lt number 5 then Some (state_of number) else None) }
-    {
+// The state of that number, if there is one.
+impl TryFrom<u8> for State {
+    type Error = Refusal;
+
+    ghost try_from_gives = { λ number r. r ≡ (if nat_lt number 5 then Ok (state_of number) else Err ValueTooLarge) };
+
+    fn try_from(number: u8) -> Result<Self, Refusal> {
         match number {
-            0 => Some(State::On),
-            1 => Some(State::Doze),
-            2 => Some(State::Sleep),
-            3 => Some(State::Suspend),
-            4 => Some(State::Off),
-            _ => None,
+            0 => Ok(State::On),
+            1 => Ok(State::Doze),
+            2 => Ok(State::Sleep),
+            3 => Ok(State::Suspend),
+            4 => Ok(State::Off),
+            _ => Err(Refusal::ValueTooLarge),
         }
     }
+}
 
+impl State {
+    // A method and no `From`: its name says what the byte is.
     pub fn number(self) -> u8
         ensures { result ≡ state_number self }
     {

@@ -1,7 +1,10 @@
 // A place: one byte's position within the device in a socket, 26 bits.
-ghost use Rattle.std.specs.Prelude.{◌≡◌, ◌<◌, if◌then◌else◌, Some, None, nat_lt};
-ghost use Rattle.std.specs.Option.{option_map};
+ghost use Rattle.std.specs.Prelude.{◌≡◌, ◌<◌, if◌then◌else◌, Ok, Err, nat_lt};
 ghost use Rattle.terms.specs.Limits.{places};
+ghost use Rattle.terms.specs.Results.{ok_map};
+ghost use Rattle.terms.specs.declared.refusal.Fault.TheVariants.{NoSuchPlace};
+
+use super::Fault;
 
 // The most places that a device can have.
 pub const PLACES: u32 = 67_108_864;
@@ -9,24 +12,28 @@ pub const PLACES: u32 = 67_108_864;
 // The bytes of a page, of CPU addresses and of a device alike.
 pub const PAGE_SIZE: u32 = 16_384;
 
-#[derive(Clone, Copy)]
+#[derive(Clone, Copy, Debug, PartialEq, Eq)]
 pub struct Place {
     index: u32,
     ghost fits: { index < places },
 }
 
-impl Place {
-    // The place of that index, if a device can have so many.
-    pub fn new(index: u32) -> Option<Place>
-        ensures { option_map (λ p. p.index) result ≡ (if nat_lt index places then Some index else None) }
-    {
+// The place of that index, if a device can have so many.
+impl TryFrom<u32> for Place {
+    type Error = Fault;
+
+    ghost try_from_gives = { λ index r. ok_map (λ p. p.index) r ≡ (if nat_lt index places then Ok index else Err NoSuchPlace) };
+
+    fn try_from(index: u32) -> Result<Self, Fault> {
         if index < PLACES {
-            Some(Place { index })
+            Ok(Place { index })
         } else {
-            None
+            Err(Fault::NoSuchPlace)
         }
     }
+}
 
+impl Place {
     pub fn index(self) -> u32
         ensures { result ≡ self.index }
     {

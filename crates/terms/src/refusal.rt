@@ -2,7 +2,7 @@
 ghost use Rattle.std.specs.Prelude.{◌≡◌};
 ghost use Rattle.terms.specs.Numbers.{number, passed_up};
 
-#[derive(Clone, Copy, PartialEq, Debug)]
+#[derive(Clone, Copy, Debug, PartialEq, Eq)]
 pub enum Refusal {
     NotAFrame = 0x01,
     UnknownKind = 0x02,
@@ -20,6 +20,7 @@ pub enum Refusal {
 }
 
 impl Refusal {
+    // A method and no `From`: its name says what the byte is.
     pub fn number(self) -> u8
         ensures { result ≡ number self }
     {
@@ -28,7 +29,7 @@ impl Refusal {
 }
 
 // What a device answers in place of a byte.
-#[derive(Clone, Copy, PartialEq)]
+#[derive(Clone, Copy, Debug, PartialEq, Eq)]
 pub enum Fault {
     NoSuchPlace,
     WriteProtected,

@@ -1,9 +1,13 @@
-use Rattle.std.proofs.Common.{◌∙◌}
-use Rattle.frames.proofs.Digits.{decoded_frame, decoded_none}
+use Rattle.std.proofs.Common.{◌∙◌, arith, rules}
+use Rattle.std.proofs.lemmas.Result.{err_from_is_err_and}
+use Rattle.frames.proofs.Digits.{decoded_cut, decoded_uncut}
 use Rattle.frames.proofs.line.decode.Goals as goal
 
-pub returns-in-Some : goal.returns-in-Some
-returns-in-Some c = c.interpret.ensures ∙ decoded_frame c.args.line.now c.in-Some.fields c.in-Some.ensures
+-- what `ok_or` gives is found by a search, so that it is the fact that fails where another refusal is given
+pub returns-in_err-fields : goal.returns-in_err-fields
+returns-in_err-fields c =
+    let p = err_from_is_err_and c.from_residual.result c.from_residual.ensures.1 in
+    rw (p.1, p.2) (decoded_uncut c.args.line.now c.cut.result c.in_err-fields.field-0.0 c.cut.ensures (search rules))
 
-pub returns-in-None : goal.returns-in-None
-returns-in-None c = decoded_none c.args.line.now c.in-None.ensures
+pub returns : goal.returns
+returns c = c.interpret.ensures ∙ decoded_cut c.args.line.now c.cut.result c.in_ok-fields.fields c.cut.ensures (search rules)

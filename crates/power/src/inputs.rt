@@ -10,6 +10,7 @@ ghost use Rattle.power.specs.View.{view};
 use super::commands::bit;
 use super::{Cause, PowerUnit};
 use registers::{Event, Register, State};
+use std::mem::replace;
 
 impl PowerUnit {
     pub fn apply(&mut self, event: Event)
@@ -127,9 +128,8 @@ impl PowerUnit {
     fn follow_ext(&mut self, level: bool)
         ensures { view self.new ≡ ext_given level (view self.old) }
     {
-        let rises = level && !self.ext;
+        let rises = take_level(&mut self.ext, level);
         let clean = rises && self.low == 2;
-        self.ext = level;
         if rises {
             self.low = 0;
         }
@@ -151,8 +151,7 @@ impl PowerUnit {
     fn follow_ring(&mut self, level: bool)
         ensures { view self.new ≡ ring_given level (view self.old) }
     {
-        let rises = level && !self.ring;
-        self.ring = level;
+        let rises = take_level(&mut self.ring, level);
         let count = self.get(Register::Wake) % 8;
         if !rises || !self.state.asleep() || count == 0 {
             return;
@@ -169,10 +168,17 @@ impl PowerUnit {
     fn follow_battery(&mut self, level: bool)
         ensures { view self.new ≡ battery_given level (view self.old) }
     {
-        let rises = level && !self.battery;
-        self.battery = level;
+        let rises = take_level(&mut self.battery, level);
         if rises && !self.state.asleep() {
             self.raise(Cause::Battery);
         }
     }
+}
+
+// Takes an input's level in the place of the one last given, and tells whether it rises.
+fn take_level(last: &mut bool, level: bool) -> bool
+    ensures rise { result ≡ (level && not last.old) }
+    ensures level { last.new ≡ level }
+{
+    !replace(last, level) && level
 }

@@ -1,6 +1,6 @@
 // The engine over any four devices.
-ghost use Rattle.std.specs.Prelude.{◌≡◌, IfSome, if◌then◌else◌, Some, None, Ok};
-ghost use Rattle.device.specs.Meaning.{read_at, write_at, written};
+ghost use Rattle.std.specs.Prelude.{◌≡◌, ◌<◌, IfSome, if◌then◌else◌, Some, None, Ok};
+ghost use Rattle.device.specs.Meaning.{faded};
 ghost use Rattle.mapper.specs.Translation.{leads, socket_number};
 ghost use Rattle.mapper.specs.View.{words};
 ghost use Rattle.power.specs.Power.{outputs};
@@ -9,84 +9,75 @@ ghost use Rattle.power.specs.View.{view as power_view};
 ghost use Rattle.rules.specs.Access.{cpu_read, cpu_write, written_target};
 ghost use Rattle.rules.specs.Laws.{Laws};
 ghost use Rattle.frames.specs.Lines.{is_frame};
-ghost use Rattle.rules.specs.Machine.{fresh, device, with_device, line, powered, fell, settled};
+ghost use Rattle.rules.specs.Machine.{device, with_device, line, powered, fell, settled};
 ghost use Rattle.rules.specs.Step.{outcome_as, done_as, outcome_of, done_by, outcome_if, step_if, answered, step, answer};
-ghost use Rattle.frames.specs.Frames.{frame_of, ok_map};
+ghost use Rattle.frames.specs.Frames.{frame_of};
+ghost use Rattle.machine.specs.Sockets.{fresh_over};
 ghost use Rattle.machine.specs.View.{view};
+ghost use Rattle.terms.specs.Results.{ok_map};
 ghost use Rattle.frames.specs.declared.kind.Kind.TheVariants as kind;
 
-use device::Device;
+use super::Sockets;
 use frames::{Answer, Command, cut, decode, interpret};
 use mapper::{PageTable, Socket};
 use power::PowerUnit;
 use registers::{Event, Register};
-use terms::{CpuAddress, CpuPage, Fault, Place, Refusal};
+use terms::{CpuAddress, CpuPage, Refusal};
 
-// R is what stands in the RAM socket, O in the ROM socket, CA and CB in the two card sockets.
+// An engine over what stands in its sockets.
 #[derive(Drop)]
-pub struct Engine<R, O, CA, CB> {
+pub struct Engine<S> {
     power: PowerUnit,
     pages: PageTable,
-    ram: R,
-    rom: O,
-    card_a: CA,
-    card_b: CB,
+    sockets: S,
 }
 
-impl<R: Device, O: Device, CA: Device, CB: Device> Engine<R, O, CA, CB> {
+impl<S: Sockets> Engine<S> {
     // A new engine is as after a reset, its devices untouched.
-    pub fn new(ram: R, rom: O, card_a: CA, card_b: CB) -> Self
-        ensures { view R.Device.meaning O.Device.meaning CA.Device.meaning CB.Device.meaning result ≡ fresh (R.Device.meaning ram) (O.Device.meaning rom) (CA.Device.meaning card_a) (CB.Device.meaning card_b) }
+    pub fn new(sockets: S) -> Self
+        ensures { view S.meaning result ≡ fresh_over (S.meaning sockets) }
     {
         Engine {
             power: PowerUnit::new(),
             pages: PageTable::new(),
-            ram,
-            rom,
-            card_a,
-            card_b,
+            sockets,
         }
     }
 
     // Answers one line, whatever its length and bytes.
     pub fn frame(&mut self, line: &[u8]) -> Answer
-        ensures answer { result ≡ answer (view R.Device.meaning O.Device.meaning CA.Device.meaning CB.Device.meaning self.old) line.now }
-        ensures after { view R.Device.meaning O.Device.meaning CA.Device.meaning CB.Device.meaning self.new ≡ step (view R.Device.meaning O.Device.meaning CA.Device.meaning CB.Device.meaning self.old) line.now }
-        ensures laws { Laws (view R.Device.meaning O.Device.meaning CA.Device.meaning CB.Device.meaning self.old) line.now result (view R.Device.meaning O.Device.meaning CA.Device.meaning CB.Device.meaning self.new) }
+        ensures answer { result ≡ answer (view S.meaning self.old) line.now }
+        ensures after { view S.meaning self.new ≡ step (view S.meaning self.old) line.now }
+        ensures laws { Laws (view S.meaning self.old) line.now result (view S.meaning self.new) }
     {
         self.reply(decode(line))
     }
 
     // The same where the line is twelve digits, looked at once; any other line is left to `frame`, and nothing changes.
     pub fn frame_of_digits(&mut self, line: &[u8]) -> Option<Answer>
-        ensures answer { result ≡ (if is_frame line.now then Some (answer (view R.Device.meaning O.Device.meaning CA.Device.meaning CB.Device.meaning self.old) line.now) else None) }
-        ensures after { view R.Device.meaning O.Device.meaning CA.Device.meaning CB.Device.meaning self.new ≡ (if is_frame line.now then step (view R.Device.meaning O.Device.meaning CA.Device.meaning CB.Device.meaning self.old) line.now else view R.Device.meaning O.Device.meaning CA.Device.meaning CB.Device.meaning self.old) }
-        ensures laws { IfSome result (λ a. Laws (view R.Device.meaning O.Device.meaning CA.Device.meaning CB.Device.meaning self.old) line.now a (view R.Device.meaning O.Device.meaning CA.Device.meaning CB.Device.meaning self.new)) }
+        ensures answer { result ≡ (if is_frame line.now then Some (answer (view S.meaning self.old) line.now) else None) }
+        ensures after { view S.meaning self.new ≡ (if is_frame line.now then step (view S.meaning self.old) line.now else view S.meaning self.old) }
+        ensures laws { IfSome result (λ a. Laws (view S.meaning self.old) line.now a (view S.meaning self.new)) }
     {
-        match cut(line) {
-            Some(fields) => Some(self.reply(interpret(fields))),
-            None => None,
-        }
+        let fields = cut(line)?;
+        Some(self.reply(interpret(fields)))
     }
 
     // Gives the devices back, as the frames have left them.
-    pub fn into_devices(self) -> (R, O, CA, CB)
-        ensures { (result.0 ≡ self.ram) × (result.1 ≡ self.rom) × (result.2 ≡ self.card_a) × (result.3 ≡ self.card_b) }
+    pub fn into_devices(self) -> S
+        ensures { result ≡ self.sockets }
     {
         let Engine {
-            power,
-            pages,
-            ram,
-            rom,
-            card_a,
-            card_b,
+            power: _,
+            pages: _,
+            sockets,
         } = self;
-        (ram, rom, card_a, card_b)
+        sockets
     }
 
     fn reply(&mut self, asked: Result<Command, Refusal>) -> Answer
-        ensures answer { result ≡ answered (outcome_if (ok_map frame_of asked) (view R.Device.meaning O.Device.meaning CA.Device.meaning CB.Device.meaning self.old)) (step_if (ok_map frame_of asked) (view R.Device.meaning O.Device.meaning CA.Device.meaning CB.Device.meaning self.old)) }
-        ensures after { view R.Device.meaning O.Device.meaning CA.Device.meaning CB.Device.meaning self.new ≡ step_if (ok_map frame_of asked) (view R.Device.meaning O.Device.meaning CA.Device.meaning CB.Device.meaning self.old) }
+        ensures answer { result ≡ answered (outcome_if (ok_map frame_of asked) (view S.meaning self.old)) (step_if (ok_map frame_of asked) (view S.meaning self.old)) }
+        ensures after { view S.meaning self.new ≡ step_if (ok_map frame_of asked) (view S.meaning self.old) }
     {
         let outcome = self.attempt(asked);
         Answer {
@@ -98,19 +89,17 @@ impl<R: Device, O: Device, CA: Device, CB: Device> Engine<R, O, CA, CB> {
     }
 
     fn attempt(&mut self, asked: Result<Command, Refusal>) -> Result<u16, Refusal>
-        ensures outcome { result ≡ outcome_if (ok_map frame_of asked) (view R.Device.meaning O.Device.meaning CA.Device.meaning CB.Device.meaning self.old) }
-        ensures after { view R.Device.meaning O.Device.meaning CA.Device.meaning CB.Device.meaning self.new ≡ step_if (ok_map frame_of asked) (view R.Device.meaning O.Device.meaning CA.Device.meaning CB.Device.meaning self.old) }
+        ensures outcome { result ≡ outcome_if (ok_map frame_of asked) (view S.meaning self.old) }
+        ensures after { view S.meaning self.new ≡ step_if (ok_map frame_of asked) (view S.meaning self.old) }
     {
-        match asked {
-            Ok(command) => self.carry_out(command),
-            Err(refusal) => Err(refusal),
-        }
+        let command = asked?;
+        self.carry_out(command)
     }
 
     // Obeys the command; a socket whose line falls by it loses power.
     fn carry_out(&mut self, command: Command) -> Result<u16, Refusal>
-        ensures outcome { result ≡ outcome_of (frame_of command) (view R.Device.meaning O.Device.meaning CA.Device.meaning CB.Device.meaning self.old) }
-        ensures after { view R.Device.meaning O.Device.meaning CA.Device.meaning CB.Device.meaning self.new ≡ settled (outputs (view R.Device.meaning O.Device.meaning CA.Device.meaning CB.Device.meaning self.old).power) (done_by (frame_of command) (view R.Device.meaning O.Device.meaning CA.Device.meaning CB.Device.meaning self.old)) }
+        ensures outcome { result ≡ outcome_of (frame_of command) (view S.meaning self.old) }
+        ensures after { view S.meaning self.new ≡ settled (outputs (view S.meaning self.old).power) (done_by (frame_of command) (view S.meaning self.old)) }
     {
         let before = self.power.outputs();
         let outcome = self.obey(command);
@@ -119,8 +108,8 @@ impl<R: Device, O: Device, CA: Device, CB: Device> Engine<R, O, CA, CB> {
     }
 
     fn obey(&mut self, command: Command) -> Result<u16, Refusal>
-        ensures outcome { result ≡ outcome_of (frame_of command) (view R.Device.meaning O.Device.meaning CA.Device.meaning CB.Device.meaning self.old) }
-        ensures after { view R.Device.meaning O.Device.meaning CA.Device.meaning CB.Device.meaning self.new ≡ done_by (frame_of command) (view R.Device.meaning O.Device.meaning CA.Device.meaning CB.Device.meaning self.old) }
+        ensures outcome { result ≡ outcome_of (frame_of command) (view S.meaning self.old) }
+        ensures after { view S.meaning self.new ≡ done_by (frame_of command) (view S.meaning self.old) }
     {
         match command {
             Command::Reset => self.reset(),
@@ -136,7 +125,7 @@ impl<R: Device, O: Device, CA: Device, CB: Device> Engine<R, O, CA, CB> {
 
     fn reset(&mut self) -> Result<u16, Refusal>
         ensures outcome { result ≡ Ok 0 }
-        ensures after { view R.Device.meaning O.Device.meaning CA.Device.meaning CB.Device.meaning self.new ≡ done_as kind.Reset 0 0 (view R.Device.meaning O.Device.meaning CA.Device.meaning CB.Device.meaning self.old) }
+        ensures after { view S.meaning self.new ≡ done_as kind.Reset 0 0 (view S.meaning self.old) }
     {
         self.power = PowerUnit::new();
         self.pages = PageTable::new();
@@ -144,58 +133,50 @@ impl<R: Device, O: Device, CA: Device, CB: Device> Engine<R, O, CA, CB> {
     }
 
     fn register_write(&mut self, register: Register, value: u8) -> Result<u16, Refusal>
-        ensures outcome { result ≡ outcome_as kind.RegisterWrite (index register) value (view R.Device.meaning O.Device.meaning CA.Device.meaning CB.Device.meaning self.old) }
-        ensures after { view R.Device.meaning O.Device.meaning CA.Device.meaning CB.Device.meaning self.new ≡ done_as kind.RegisterWrite (index register) value (view R.Device.meaning O.Device.meaning CA.Device.meaning CB.Device.meaning self.old) }
+        ensures outcome { result ≡ outcome_as kind.RegisterWrite (index register) value (view S.meaning self.old) }
+        ensures after { view S.meaning self.new ≡ done_as kind.RegisterWrite (index register) value (view S.meaning self.old) }
     {
         self.power.write(register, value)?;
         Ok(0)
     }
 
     fn register_read(&mut self, register: Register) -> Result<u16, Refusal>
-        ensures outcome { result ≡ outcome_as kind.RegisterRead (index register) 0 (view R.Device.meaning O.Device.meaning CA.Device.meaning CB.Device.meaning self.old) }
-        ensures after { view R.Device.meaning O.Device.meaning CA.Device.meaning CB.Device.meaning self.new ≡ done_as kind.RegisterRead (index register) 0 (view R.Device.meaning O.Device.meaning CA.Device.meaning CB.Device.meaning self.old) }
+        ensures outcome { result ≡ outcome_as kind.RegisterRead (index register) 0 (view S.meaning self.old) }
+        ensures after { view S.meaning self.new ≡ done_as kind.RegisterRead (index register) 0 (view S.meaning self.old) }
     {
         let value = self.power.read(register)?;
         Ok(u16::from(value))
     }
 
     fn page_write(&mut self, page: CpuPage, word: u16) -> Result<u16, Refusal>
-        ensures outcome { result ≡ outcome_as kind.PageWrite page.number word (view R.Device.meaning O.Device.meaning CA.Device.meaning CB.Device.meaning self.old) }
-        ensures after { view R.Device.meaning O.Device.meaning CA.Device.meaning CB.Device.meaning self.new ≡ done_as kind.PageWrite page.number word (view R.Device.meaning O.Device.meaning CA.Device.meaning CB.Device.meaning self.old) }
+        ensures outcome { result ≡ outcome_as kind.PageWrite page.number word (view S.meaning self.old) }
+        ensures after { view S.meaning self.new ≡ done_as kind.PageWrite page.number word (view S.meaning self.old) }
     {
-        if self.power.state().asleep() {
-            return Err(Refusal::Asleep);
-        }
+        self.power.check_awake()?;
         self.pages.store(page, word);
         Ok(0)
     }
 
     fn page_read(&self, page: CpuPage) -> Result<u16, Refusal>
-        ensures { result ≡ outcome_as kind.PageRead page.number 0 (view R.Device.meaning O.Device.meaning CA.Device.meaning CB.Device.meaning self.now) }
+        ensures { result ≡ outcome_as kind.PageRead page.number 0 (view S.meaning self.now) }
     {
-        if self.power.state().asleep() {
-            return Err(Refusal::Asleep);
-        }
+        self.power.check_awake()?;
         Ok(self.pages.word(page))
     }
 
     fn cpu_read(&self, address: CpuAddress) -> Result<u16, Refusal>
-        ensures { result ≡ outcome_as kind.CpuRead address.bits 0 (view R.Device.meaning O.Device.meaning CA.Device.meaning CB.Device.meaning self.now) }
+        ensures { result ≡ outcome_as kind.CpuRead address.bits 0 (view S.meaning self.now) }
     {
-        if self.power.state().asleep() {
-            return Err(Refusal::Asleep);
-        }
+        self.power.check_awake()?;
         let byte = self.read_at(address)?;
         Ok(u16::from(byte))
     }
 
     fn cpu_write(&mut self, address: CpuAddress, value: u8) -> Result<u16, Refusal>
-        ensures outcome { result ≡ outcome_as kind.CpuWrite address.bits value (view R.Device.meaning O.Device.meaning CA.Device.meaning CB.Device.meaning self.old) }
-        ensures after { view R.Device.meaning O.Device.meaning CA.Device.meaning CB.Device.meaning self.new ≡ done_as kind.CpuWrite address.bits value (view R.Device.meaning O.Device.meaning CA.Device.meaning CB.Device.meaning self.old) }
+        ensures outcome { result ≡ outcome_as kind.CpuWrite address.bits value (view S.meaning self.old) }
+        ensures after { view S.meaning self.new ≡ done_as kind.CpuWrite address.bits value (view S.meaning self.old) }
     {
-        if self.power.state().asleep() {
-            return Err(Refusal::Asleep);
-        }
+        self.power.check_awake()?;
         let written = self.write_at(address, value);
         if let Err(Refusal::PageReadOnly | Refusal::WriteProtected) = written {
             self.power.note_violation(address);
@@ -205,15 +186,15 @@ impl<R: Device, O: Device, CA: Device, CB: Device> Engine<R, O, CA, CB> {
     }
 
     fn input(&mut self, event: Event) -> Result<u16, Refusal>
-        ensures outcome { result ≡ outcome_of (frame_of (Command.Input event)) (view R.Device.meaning O.Device.meaning CA.Device.meaning CB.Device.meaning self.old) }
-        ensures after { view R.Device.meaning O.Device.meaning CA.Device.meaning CB.Device.meaning self.new ≡ done_by (frame_of (Command.Input event)) (view R.Device.meaning O.Device.meaning CA.Device.meaning CB.Device.meaning self.old) }
+        ensures outcome { result ≡ outcome_of (frame_of (Command.Input event)) (view S.meaning self.old) }
+        ensures after { view S.meaning self.new ≡ done_by (frame_of (Command.Input event)) (view S.meaning self.old) }
     {
         self.power.apply(event);
         Ok(0)
     }
 
     fn read_at(&self, address: CpuAddress) -> Result<u8, Refusal>
-        ensures { result ≡ cpu_read (view R.Device.meaning O.Device.meaning CA.Device.meaning CB.Device.meaning self.now) address.bits }
+        ensures { result ≡ cpu_read (view S.meaning self.now) address.bits }
     {
         let Some(at) = self.pages.translate(address) else {
             return Err(Refusal::PageNotMapped);
@@ -221,13 +202,13 @@ impl<R: Device, O: Device, CA: Device, CB: Device> Engine<R, O, CA, CB> {
         if !self.powers(at.socket) {
             return Err(Refusal::SocketUnpowered);
         }
-        let byte = self.read_socket(at.socket, at.place)?;
+        let byte = self.sockets.read(at.socket, at.place)?;
         Ok(byte)
     }
 
     fn write_at(&mut self, address: CpuAddress, value: u8) -> Result<(), Refusal>
-        ensures outcome { result ≡ cpu_write (view R.Device.meaning O.Device.meaning CA.Device.meaning CB.Device.meaning self.old) address.bits }
-        ensures after { view R.Device.meaning O.Device.meaning CA.Device.meaning CB.Device.meaning self.new ≡ written_target (view R.Device.meaning O.Device.meaning CA.Device.meaning CB.Device.meaning self.old) (leads (words self.old.pages) address.bits) value }
+        ensures outcome { result ≡ cpu_write (view S.meaning self.old) address.bits }
+        ensures after { view S.meaning self.new ≡ written_target (view S.meaning self.old) (leads (words self.old.pages) address.bits) value }
     {
         let Some(at) = self.pages.translate(address) else {
             return Err(Refusal::PageNotMapped);
@@ -238,31 +219,8 @@ impl<R: Device, O: Device, CA: Device, CB: Device> Engine<R, O, CA, CB> {
         if !self.powers(at.socket) {
             return Err(Refusal::SocketUnpowered);
         }
-        self.write_socket(at.socket, at.place, value)?;
+        self.sockets.write(at.socket, at.place, value)?;
         Ok(())
-    }
-
-    fn read_socket(&self, socket: Socket, place: Place) -> Result<u8, Fault>
-        ensures { result ≡ read_at (device (view R.Device.meaning O.Device.meaning CA.Device.meaning CB.Device.meaning self.now) (socket_number socket)) place.index }
-    {
-        match socket {
-            Socket::Ram => self.ram.read(place),
-            Socket::Rom => self.rom.read(place),
-            Socket::CardA => self.card_a.read(place),
-            Socket::CardB => self.card_b.read(place),
-        }
-    }
-
-    fn write_socket(&mut self, socket: Socket, place: Place, value: u8) -> Result<(), Fault>
-        ensures outcome { result ≡ write_at (device (view R.Device.meaning O.Device.meaning CA.Device.meaning CB.Device.meaning self.old) (socket_number socket)) place.index }
-        ensures after { view R.Device.meaning O.Device.meaning CA.Device.meaning CB.Device.meaning self.new ≡ with_device (socket_number socket) (written (device (view R.Device.meaning O.Device.meaning CA.Device.meaning CB.Device.meaning self.old) (socket_number socket)) place.index value) (view R.Device.meaning O.Device.meaning CA.Device.meaning CB.Device.meaning self.old) }
-    {
-        match socket {
-            Socket::Ram => self.ram.write(place, value),
-            Socket::Rom => self.rom.write(place, value),
-            Socket::CardA => self.card_a.write(place, value),
-            Socket::CardB => self.card_b.write(place, value),
-        }
     }
 
     // Whether the socket's power line is 1.
@@ -274,32 +232,41 @@ impl<R: Device, O: Device, CA: Device, CB: Device> Engine<R, O, CA, CB> {
 
     // Each socket whose line has fallen since the outputs were `before` loses power.
     fn settle(&mut self, before: u8)
-        ensures { view R.Device.meaning O.Device.meaning CA.Device.meaning CB.Device.meaning self.new ≡ settled before (view R.Device.meaning O.Device.meaning CA.Device.meaning CB.Device.meaning self.old) }
+        ensures { view S.meaning self.new ≡ settled before (view S.meaning self.old) }
     {
         let after = self.power.outputs();
-        if line_fell(before, after, Socket::Ram) {
-            self.ram.lose_power();
-        }
-        if line_fell(before, after, Socket::Rom) {
-            self.rom.lose_power();
-        }
-        if line_fell(before, after, Socket::CardA) {
-            self.card_a.lose_power();
-        }
-        if line_fell(before, after, Socket::CardB) {
-            self.card_b.lose_power();
+        self.settle_socket(Socket::Ram, before, after);
+        self.settle_socket(Socket::Rom, before, after);
+        self.settle_socket(Socket::CardA, before, after);
+        self.settle_socket(Socket::CardB, before, after);
+    }
+
+    // The socket loses power if its line has fallen from the one outputs to the other.
+    fn settle_socket(&mut self, socket: Socket, before: u8, after: u8)
+        ensures { view S.meaning self.new ≡ with_device (socket_number socket) (if fell before after (socket_number socket) then faded (device (view S.meaning self.old) (socket_number socket)) else device (view S.meaning self.old) (socket_number socket)) (view S.meaning self.old) }
+    {
+        if line_fell(before, after, socket) {
+            self.sockets.lose_power(socket);
         }
     }
 }
 
-// Whether the socket's line is 1 in the outputs: D1 RAM, D2 ROM, D3 both cards.
+// Whether the socket's line is 1 in the outputs.
 fn has_line(outputs: u8, socket: Socket) -> bool
     ensures { result ≡ bit (line (socket_number socket)) outputs }
 {
+    (outputs >> line(socket)) % 2 == 1
+}
+
+// The bit of the outputs that is the socket's line: D1 RAM, D2 ROM, D3 both cards.
+fn line(socket: Socket) -> u8
+    ensures line { result ≡ line (socket_number socket) }
+    ensures bound { result < 8 }
+{
     match socket {
-        Socket::Ram => (outputs >> 1) % 2 == 1,
-        Socket::Rom => (outputs >> 2) % 2 == 1,
-        Socket::CardA | Socket::CardB => (outputs >> 3) % 2 == 1,
+        Socket::Ram => 1,
+        Socket::Rom => 2,
+        Socket::CardA | Socket::CardB => 3,
     }
 }
 

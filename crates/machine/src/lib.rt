@@ -2,5 +2,7 @@
 #![tactic(auto)]
 
 mod engine;
+mod sockets;
 
 pub use engine::Engine;
+pub use sockets::{Devices, Sockets};

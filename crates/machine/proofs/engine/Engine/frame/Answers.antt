@@ -6,7 +6,7 @@ use Rattle.machine.proofs.engine.Engine.frame.Goals as goal
 
 pub returns : goal.returns
 returns g c =
-    let seen = view g.R.Device.meaning g.O.Device.meaning g.CA.Device.meaning g.CB.Device.meaning in
+    let seen = view g.S.Sockets.meaning in
     let l = c.args.line.now in
     let start = seen c.args.self.now in
     let said = c.reply.ensures.answer ∙ answer_by start l _ c.decode.ensures in

@@ -1,14 +1,15 @@
 use Rattle.std.proofs.Common.{◌≡◌, Some, None, Result, sym, ap, ◌∙◌, cond, arith}
-use Rattle.std.proofs.lemmas.Bool.{cond-true, cond-false}
+use Rattle.std.proofs.lemmas.Bool.{cond-true}
 use Rattle.terms.specs.declared.refusal.Refusal.{Refusal}
 use Rattle.frames.specs.Lines.{Line, is_frame}
 use Rattle.frames.specs.Kinds.{kind_of}
 use Rattle.frames.specs.Decode.{listed}
-use Rattle.frames.specs.Frames.{fields_of, frame_of, ok_map}
+use Rattle.frames.specs.Frames.{fields_of, frame_of}
+use Rattle.terms.specs.Results.{ok_map}
 use Rattle.frames.specs.declared.answer.Answer.{Answer}
 use Rattle.frames.specs.declared.command.Command.{Command}
 use Rattle.frames.specs.declared.line.Fields.{Fields}
-use Rattle.frames.proofs.Digits.{decoded_frame, cut_some, cut_none}
+use Rattle.frames.proofs.Digits.{decoded_frame, cut_some}
 use Rattle.rules.specs.Machine.{Machine}
 use Rattle.rules.specs.Step.{answered, answer, outcome_if, step_if, step}
 use Rattle.rules.proofs.Laws.{laws_hold}
@@ -27,33 +28,22 @@ digits_answered start l fields asked r cuts reads replies =
     ∙ sym (cond-true (is_frame l) (Some (answer start l)) None (cut_some (is_frame l) fields (fields_of l) cuts))
 
 -- by a tactic, so that it is the fact that fails where the reply is not given
-pub returns-in-Some-clause-answer : goal.returns-in-Some-clause-answer
-returns-in-Some-clause-answer g c = grind (arith, digits_answered)
+pub returns-clause-answer : goal.returns-clause-answer
+returns-clause-answer g c = grind (arith, digits_answered)
 
-pub returns-in-Some-clause-after : goal.returns-in-Some-clause-after
-returns-in-Some-clause-after g c =
-    let start = view g.R.Device.meaning g.O.Device.meaning g.CA.Device.meaning g.CB.Device.meaning c.args.self.now in
+pub returns-clause-after : goal.returns-clause-after
+returns-clause-after g c =
+    let start = view g.S.Sockets.meaning c.args.self.now in
     let l = c.args.line.now in
-    let fields = c.in-Some.fields in
+    let fields = c.in_ok-fields.fields in
     c.reply.ensures.after
-    ∙ step_by start l _ (c.interpret.ensures ∙ decoded_frame l fields c.in-Some.ensures)
-    ∙ sym (cond-true (is_frame l) (step start l) start (cut_some (is_frame l) fields (fields_of l) c.in-Some.ensures))
+    ∙ step_by start l _ (c.interpret.ensures ∙ decoded_frame l fields c.in_ok-fields.ensures)
+    ∙ sym (cond-true (is_frame l) (step start l) start (cut_some (is_frame l) fields (fields_of l) c.in_ok-fields.ensures))
 
-pub returns-in-Some-clause-laws : goal.returns-in-Some-clause-laws
-returns-in-Some-clause-laws g c =
-    let seen = view g.R.Device.meaning g.O.Device.meaning g.CA.Device.meaning g.CB.Device.meaning in
+pub returns-clause-laws : goal.returns-clause-laws
+returns-clause-laws g c =
+    let seen = view g.S.Sockets.meaning in
     let start = seen c.args.self.now in
     let l = c.args.line.now in
-    let asked = c.interpret.ensures ∙ decoded_frame l c.in-Some.fields c.in-Some.ensures in
+    let asked = c.interpret.ensures ∙ decoded_frame l c.in_ok-fields.fields c.in_ok-fields.ensures in
     laws_hold start (seen c.reply.new.self) l c.reply.result (c.reply.ensures.answer ∙ answer_by start l _ asked) (c.reply.ensures.after ∙ step_by start l _ asked)
-
-pub returns-in-None : goal.returns-in-None
-returns-in-None g c =
-    let m = view g.R.Device.meaning g.O.Device.meaning g.CA.Device.meaning g.CB.Device.meaning c.args.self.now in
-    let l = c.args.line.now in
-    let none = cut_none (is_frame l) (fields_of l) c.in-None.ensures in
-    record {
-      answer = sym (cond-false (is_frame l) (Some (answer m l)) None none);
-      after = sym (cond-false (is_frame l) (step m l) m none);
-      laws = tt;
-    }

@@ -7,5 +7,5 @@ use Rattle.machine.proofs.engine.Engine.obey.Goals as goal
 
 pub returns-in-RegisterRead-clause-after : goal.returns-in-RegisterRead-clause-after
 returns-in-RegisterRead-clause-after g c =
-    let start = view g.R.Device.meaning g.O.Device.meaning g.CA.Device.meaning g.CB.Device.meaning c.args.self.now in
+    let start = view g.S.Sockets.meaning c.args.self.now in
     c.register_read.ensures.after ∙ ap (λ (k : Command). done_by (frame_of k) start) (sym c.in-RegisterRead.is)

@@ -1,6 +1,6 @@
 -- How a link goes on by a byte, by a whole frame, and twice.
-use Rattle.std.proofs.Common.{◌≡◌, ℕ, zero, suc, ◌+◌, ◌<◌, ◌≤◌, Bool, true, false, cond, eqb, List, [], ◌∷◌, ◌++◌, length, get_or, take, drop, Some, None, Option, sym, refl, ap, ◌∙◌, subst, zero-le, suc-add, zero-add, arith, MatchOption}
-use Rattle.std.proofs.lemmas.List.{take_more, take_all, take-take, length-take, length-take-le, append_assoc, append-nil, drop-drop}
+use Rattle.std.proofs.Common.{◌≡◌, ℕ, zero, suc, ◌+◌, ◌<◌, ◌≤◌, Bool, true, false, cond, eqb, List, [], ◌∷◌, ◌++◌, length, get_or, take, drop, Some, None, Option, sym, refl, ap, ◌∙◌, subst, zero-le, suc-add, zero-add, arith, rules, ◌-◌, MatchOption}
+use Rattle.std.proofs.lemmas.List.{places, same_lists, take_more, take_all, take-take, append_assoc, append-nil, drop-drop}
 use Rattle.std.proofs.lemmas.Bool.{and_parts}
 use Rattle.frames.specs.Lines.{Line, all_digits, is_frame}
 use Rattle.rules.specs.Machine.{Machine}
@@ -105,9 +105,13 @@ finish_says first m bytes h (b ∷ u) r some em eh e =
     ap (λ x. answers first (lines bytes) ++ spelled x)
     (e ∙ ap (λ x. answer x h) em ∙ ap (answer (after first (lines bytes))) eh ∙ answer_by_kept (after first (lines bytes)) (b ∷ u))
 
--- what is held of a line that has a byte
-pub some_held : (xs : List ℕ) (n : ℕ) → n ≤ length xs → (n ≡ 0 → ⊥) → take n xs ≡ [] → ⊥
-some_held xs n h some e = some (omega (arith, length-take-le n xs h, ap length e))
+-- what is held, by its length
+pub some_held : (xs : List ℕ) → (length xs ≡ 0 → ⊥) → xs ≡ [] → ⊥
+some_held xs some e = some (ap length e)
+
+pub none_held : (xs : List ℕ) → length xs ≡ 0 → xs ≡ []
+none_held [] e = refl
+none_held (x ∷ xs) e = absurd (omega (arith, e))
 
 pub take_one : (rest : List ℕ) → 0 < length rest → get_or rest 0 0 ∷ [] ≡ take 1 rest
 take_one rest h = sym (take_more rest 0 0 h)
@@ -117,16 +121,37 @@ take_plus zero n xs = ap (λ k. take k xs) (zero-add n)
 take_plus (suc i) n [] = ap (λ k. take k []) (suc-add i n) ∙ sym (take_all n [] zero-le)
 take_plus (suc i) n (x ∷ xs) = ap (λ k. take k (x ∷ xs)) (suc-add i n) ∙ ap (λ l. x ∷ l) (take_plus i n xs)
 
--- a turn of the loop over a chunk, of which t bytes more are taken
-pub goes_turn : {m m₁ m₂ : Machine} {h h₁ h₂ : List ℕ} (chunk out out' : List ℕ) (r : Option Answer) (at t k w w' : ℕ)
-    → t ≤ length (take k (drop at chunk)) → take w' out' ≡ take w out ++ said r
-    → GoesOn m h m₁ h₁ (take at chunk) (take w out) → GoesOn m₁ h₁ m₂ h₂ (take t (take k (drop at chunk))) (said r)
-    → GoesOn m h m₂ h₂ (take (at + t) chunk) (take w' out')
-goes_turn {m = m} {m₂ = m₂} {h = h} {h₂ = h₂} chunk out out' r at t k w w' within front one two =
-    let inner : take t (take k (drop at chunk)) ≡ take t (drop at chunk) = take-take t k (drop at chunk) (omega (arith, length-take k (drop at chunk))) in
-    let more : take at chunk ++ take t (take k (drop at chunk)) ≡ take (at + t) chunk = ap (λ x. take at chunk ++ x) inner ∙ sym (take_plus at t chunk) in
-    subst (λ (x : List ℕ). GoesOn m h m₂ h₂ (take (at + t) chunk) x) (sym front)
-    (subst (λ (x : List ℕ). GoesOn m h m₂ h₂ x (take w out ++ said r)) more (goes_twice (take at chunk) (take t (take k (drop at chunk))) (take w out) (said r) one two))
+-- what is left of `rest`, once t bytes more are taken
+abbrev pub left : List ℕ → ℕ → List ℕ
+left rest t = take (length rest - t) (drop t rest)
+
+pub length-left : (rest : List ℕ) (t : ℕ) → t ≤ length rest → length (left rest t) ≡ length rest - t
+length-left rest t within = grind (arith, places)
+
+-- A turn of the loop over a chunk, of which `read` bytes are taken in all: `rest` is what is still to be taken
+pub goes_turn : {m m₁ m₂ : Machine} {h h₁ h₂ : List ℕ} (chunk rest out out' : List ℕ) (r : Option Answer) (read t w w' : ℕ)
+    → rest ≡ take (length rest) (drop (read - length rest) chunk) → length rest ≤ read → t ≤ length rest → take w' out' ≡ take w out ++ said r
+    → GoesOn m h m₁ h₁ (take (read - length rest) chunk) (take w out) → GoesOn m₁ h₁ m₂ h₂ (take t rest) (said r)
+    → GoesOn m h m₂ h₂ (take (read - length (left rest t)) chunk) (take w' out')
+goes_turn {m = m} {m₂ = m₂} {h = h} {h₂ = h₂} chunk rest out out' r read t w w' lies few within front one two =
+    let at : ℕ = read - length rest in
+    let end : ℕ = read - length (left rest t) in
+    let inner : take t rest ≡ take t (drop at chunk) = ap (take t) lies ∙ take-take t (length rest) (drop at chunk) within in
+    let e : at + t ≡ end = omega (arith, few, within, length-left rest t within) in
+    let more : take at chunk ++ take t rest ≡ take end chunk =
+    ap (λ x. take at chunk ++ x) inner ∙ sym (take_plus at t chunk) ∙ ap (λ (n : ℕ). take n chunk) e in
+    subst (λ (x : List ℕ). GoesOn m h m₂ h₂ (take end chunk) x) (sym front)
+    (subst (λ (x : List ℕ). GoesOn m h m₂ h₂ x (take w out ++ said r)) more (goes_twice (take at chunk) (take t rest) (take w out) (said r) one two))
+
+pub rest_turn : (chunk rest : List ℕ) (read t : ℕ) → rest ≡ take (length rest) (drop (read - length rest) chunk) → length rest ≤ read → t ≤ length rest
+    → left rest t ≡ take (length (left rest t)) (drop (read - length (left rest t)) chunk)
+rest_turn chunk rest read t lies few within =
+    let n : ℕ = length rest in
+    let at : ℕ = read - n in
+    let e = length-left rest t within in
+    let parts : take (n - t) (drop t rest) ≡ take (n - t) (drop t (take n (drop at chunk))) = ap (λ x. take (n - t) (drop t x)) lies in
+    let same : take (n - t) (drop t (take n (drop at chunk))) ≡ take (n - t) (drop (read - (n - t)) chunk) = same_lists _ _ (search (rules, places)) (λ k d l. grind (arith, places)) in
+    parts ∙ same ∙ ap (λ (k : ℕ). take k (drop (read - k) chunk)) (sym e)
 
 -- what both lists have after w they have after j more
 pub rest_more : (xs ys : List ℕ) (w j : ℕ) → drop w xs ≡ drop w ys → drop (w + j) xs ≡ drop (w + j) ys

@@ -5,14 +5,15 @@ ghost use Rattle.rules.specs.Step.{after, step, answer};
 ghost use Rattle.frames.specs.Spelling.{spelled};
 ghost use Rattle.device.specs.Meaning.{Meaning};
 ghost use Rattle.rules.specs.Laws.{Lawful};
+ghost use Rattle.machine.specs.Sockets.{fresh_over};
 ghost use Rattle.machine.specs.View.{view};
 ghost use Rattle.link.specs.Stream.{Stands, GoesOn, said, taken, lines, all_lines, answers};
 ghost use Rattle.link.specs.View.{held};
 
 use super::Link;
-use device::Device;
+use arrayvec::ArrayVec;
 use frames::{ANSWER_LENGTH, Answer};
-use machine::Engine;
+use machine::{Engine, Sockets};
 
 // How many bytes of the chunk were taken, and how many were written.
 #[derive(Clone, Copy)]
@@ -23,8 +24,8 @@ pub struct Progress {
 
 // What a run leaves: the link with its engine, and how far it came.
 #[derive(Drop)]
-pub struct Run<R, O, CA, CB> {
-    pub link: Link<R, O, CA, CB>,
+pub struct Run<S> {
+    pub link: Link<S>,
     pub progress: Progress,
 }
 
@@ -35,33 +36,25 @@ struct Advance {
     answer: Option<Answer>,
 }
 
-impl<R: Device, O: Device, CA: Device, CB: Device> Link<R, O, CA, CB> {
-    pub fn new(engine: Engine<R, O, CA, CB>) -> Self
-        ensures { Stands (view R.Device.meaning O.Device.meaning CA.Device.meaning CB.Device.meaning engine) [] (view R.Device.meaning O.Device.meaning CA.Device.meaning CB.Device.meaning result.engine) (held result) }
+impl<S: Sockets> Link<S> {
+    pub fn new(engine: Engine<S>) -> Self
+        ensures { Stands (view S.meaning engine) [] (view S.meaning result.engine) (held result) }
     {
         Link {
             engine,
-            held: [0; 13],
-            len: 0,
+            held: ArrayVec::new(),
         }
     }
 
     // Runs an input on a new engine, as far as there is room for its answers: every line of what was taken is lawful.
-    pub fn run(
-        ram: R,
-        rom: O,
-        card_a: CA,
-        card_b: CB,
-        input: &[u8],
-        out: &mut [u8],
-    ) -> Run<R, O, CA, CB>
+    pub fn run(sockets: S, input: &[u8], out: &mut [u8]) -> Run<S>
         ensures read { result.progress.read ≡ taken input.now out.old }
-        ensures stands { Stands (fresh (R.Device.meaning ram) (O.Device.meaning rom) (CA.Device.meaning card_a) (CB.Device.meaning card_b)) (take result.progress.read input.now) (view R.Device.meaning O.Device.meaning CA.Device.meaning CB.Device.meaning result.link.engine) (held result.link) }
-        ensures says { take result.progress.written out.new ≡ answers (fresh (R.Device.meaning ram) (O.Device.meaning rom) (CA.Device.meaning card_a) (CB.Device.meaning card_b)) (lines (take result.progress.read input.now)) }
+        ensures stands { Stands (fresh_over (S.meaning sockets)) (take result.progress.read input.now) (view S.meaning result.link.engine) (held result.link) }
+        ensures says { take result.progress.written out.new ≡ answers (fresh_over (S.meaning sockets)) (lines (take result.progress.read input.now)) }
         ensures rest { drop result.progress.written out.new ≡ drop result.progress.written out.old }
-        ensures laws { Lawful (fresh (R.Device.meaning ram) (O.Device.meaning rom) (CA.Device.meaning card_a) (CB.Device.meaning card_b)) (lines (take result.progress.read input.now)) }
+        ensures laws { Lawful (fresh_over (S.meaning sockets)) (lines (take result.progress.read input.now)) }
     {
-        let mut link = Link::new(Engine::new(ram, rom, card_a, card_b));
+        let mut link = Link::new(Engine::new(sockets));
         let progress = link.receive(input, out);
         Run { link, progress }
     }
@@ -71,49 +64,49 @@ impl<R: Device, O: Device, CA: Device, CB: Device> Link<R, O, CA, CB> {
     pub fn receive(&mut self, chunk: &[u8], out: &mut [u8]) -> Progress
         ensures read { result.read ≡ taken chunk.now out.old }
         ensures within { result.written ≤ length out.old }
-        ensures received { GoesOn (view R.Device.meaning O.Device.meaning CA.Device.meaning CB.Device.meaning self.old.engine) (held self.old) (view R.Device.meaning O.Device.meaning CA.Device.meaning CB.Device.meaning self.new.engine) (held self.new) (take result.read chunk.now) (take result.written out.new) }
+        ensures received { GoesOn (view S.meaning self.old.engine) (held self.old) (view S.meaning self.new.engine) (held self.new) (take result.read chunk.now) (take result.written out.new) }
         ensures rest { drop result.written out.new ≡ drop result.written out.old }
-        ensures laws { (ram rom card_a card_b : Meaning) (before : List ℕ) → Stands (fresh ram rom card_a card_b) before (view R.Device.meaning O.Device.meaning CA.Device.meaning CB.Device.meaning self.old.engine) (held self.old) → Lawful (fresh ram rom card_a card_b) (lines (before ++ take result.read chunk.now)) }
+        ensures laws { (ram rom card_a card_b : Meaning) (before : List ℕ) → Stands (fresh ram rom card_a card_b) before (view S.meaning self.old.engine) (held self.old) → Lawful (fresh ram rom card_a card_b) (lines (before ++ take result.read chunk.now)) }
     {
         let read = chunk.len().min(out.len() / ANSWER_LENGTH);
-        let mut at = 0;
+        let mut rest = &chunk[0..read];
         let mut written = 0;
-        while at < read {
-            let next = self.advance(&chunk[at..read]);
+        while !rest.is_empty() {
+            let next = self.advance(rest);
             if let Some(answer) = next.answer {
                 put(out, written, answer);
                 written += ANSWER_LENGTH;
             }
-            at += next.taken;
+            rest = &rest[next.taken..];
         }
         Progress { read, written }
     }
 
     // The input has ended: a line that has a byte is answered.
     pub fn finish(&mut self) -> Option<Answer>
-        ensures machine { (first : Machine) (bytes : List ℕ) → Stands first bytes (view R.Device.meaning O.Device.meaning CA.Device.meaning CB.Device.meaning self.old.engine) (held self.old) → view R.Device.meaning O.Device.meaning CA.Device.meaning CB.Device.meaning self.new.engine ≡ after first (all_lines bytes) }
-        ensures says { (first : Machine) (bytes : List ℕ) → Stands first bytes (view R.Device.meaning O.Device.meaning CA.Device.meaning CB.Device.meaning self.old.engine) (held self.old) → answers first (lines bytes) ++ said result ≡ answers first (all_lines bytes) }
+        ensures machine { (first : Machine) (bytes : List ℕ) → Stands first bytes (view S.meaning self.old.engine) (held self.old) → view S.meaning self.new.engine ≡ after first (all_lines bytes) }
+        ensures says { (first : Machine) (bytes : List ℕ) → Stands first bytes (view S.meaning self.old.engine) (held self.old) → answers first (lines bytes) ++ said result ≡ answers first (all_lines bytes) }
         ensures held { held self.new ≡ [] }
-        ensures laws { (ram rom card_a card_b : Meaning) (bytes : List ℕ) → Stands (fresh ram rom card_a card_b) bytes (view R.Device.meaning O.Device.meaning CA.Device.meaning CB.Device.meaning self.old.engine) (held self.old) → Lawful (fresh ram rom card_a card_b) (all_lines bytes) }
+        ensures laws { (ram rom card_a card_b : Meaning) (bytes : List ℕ) → Stands (fresh ram rom card_a card_b) bytes (view S.meaning self.old.engine) (held self.old) → Lawful (fresh ram rom card_a card_b) (all_lines bytes) }
     {
-        if self.len == 0 {
+        if self.held.is_empty() {
             return None;
         }
         Some(self.end_line())
     }
 
     // Gives the engine back.
-    pub fn into_engine(self) -> Engine<R, O, CA, CB>
+    pub fn into_engine(self) -> Engine<S>
         ensures { result ≡ self.engine }
     {
-        let engine = self.engine;
+        let Link { engine, held: _ } = self;
         engine
     }
 
     // Takes a whole frame, as nearly always, or a byte.
     fn advance(&mut self, rest: &[u8]) -> Advance
         requires { 0 < length rest.now }
-        ensures goes { GoesOn (view R.Device.meaning O.Device.meaning CA.Device.meaning CB.Device.meaning self.old.engine) (held self.old) (view R.Device.meaning O.Device.meaning CA.Device.meaning CB.Device.meaning self.new.engine) (held self.new) (take result.taken rest.now) (said result.answer) }
+        ensures goes { GoesOn (view S.meaning self.old.engine) (held self.old) (view S.meaning self.new.engine) (held self.new) (take result.taken rest.now) (said result.answer) }
         ensures some { 0 < result.taken }
         ensures within { result.taken ≤ length rest.now }
     {
@@ -131,9 +124,9 @@ impl<R: Device, O: Device, CA: Device, CB: Device> Link<R, O, CA, CB> {
 
     // A whole frame that the bytes begin with, where no line is begun.
     fn whole_frame(&mut self, rest: &[u8]) -> Option<Answer>
-        ensures { MatchOption result ((view R.Device.meaning O.Device.meaning CA.Device.meaning CB.Device.meaning self.new.engine ≡ view R.Device.meaning O.Device.meaning CA.Device.meaning CB.Device.meaning self.old.engine) × (held self.new ≡ held self.old)) (λ a. (13 ≤ length rest.now) × GoesOn (view R.Device.meaning O.Device.meaning CA.Device.meaning CB.Device.meaning self.old.engine) (held self.old) (view R.Device.meaning O.Device.meaning CA.Device.meaning CB.Device.meaning self.new.engine) (held self.new) (take 13 rest.now) (spelled a)) }
+        ensures { MatchOption result ((view S.meaning self.new.engine ≡ view S.meaning self.old.engine) × (held self.new ≡ held self.old)) (λ a. (13 ≤ length rest.now) × GoesOn (view S.meaning self.old.engine) (held self.old) (view S.meaning self.new.engine) (held self.new) (take 13 rest.now) (spelled a)) }
     {
-        if self.len == 0 && rest.len() > 12 && rest[12] == b'\n' {
+        if self.held.is_empty() && rest.len() > 12 && rest[12] == b'\n' {
             self.engine.frame_of_digits(&rest[0..12])
         } else {
             None
@@ -141,7 +134,7 @@ impl<R: Device, O: Device, CA: Device, CB: Device> Link<R, O, CA, CB> {
     }
 
     fn next_byte(&mut self, b: u8) -> Option<Answer>
-        ensures { GoesOn (view R.Device.meaning O.Device.meaning CA.Device.meaning CB.Device.meaning self.old.engine) (held self.old) (view R.Device.meaning O.Device.meaning CA.Device.meaning CB.Device.meaning self.new.engine) (held self.new) (b ∷ []) (said result) }
+        ensures { GoesOn (view S.meaning self.old.engine) (held self.old) (view S.meaning self.new.engine) (held self.new) (b ∷ []) (said result) }
     {
         if b == b'\n' {
             return Some(self.end_line());
@@ -155,23 +148,20 @@ impl<R: Device, O: Device, CA: Device, CB: Device> Link<R, O, CA, CB> {
         ensures held { held self.new ≡ take 13 (held self.old ++ b ∷ []) }
         ensures engine { self.new.engine ≡ self.old.engine }
     {
-        let at = self.len;
-        if at < 13 {
-            self.held[at] = b;
-            self.len = at + 1;
+        if !self.held.is_full() {
+            self.held.push(b);
         }
     }
 
     // Answers the line of which the first bytes are held.
     fn end_line(&mut self) -> Answer
-        ensures answer { result ≡ answer (view R.Device.meaning O.Device.meaning CA.Device.meaning CB.Device.meaning self.old.engine) (held self.old) }
+        ensures answer { result ≡ answer (view S.meaning self.old.engine) (held self.old) }
         ensures held { held self.new ≡ [] }
-        ensures engine { view R.Device.meaning O.Device.meaning CA.Device.meaning CB.Device.meaning self.new.engine ≡ step (view R.Device.meaning O.Device.meaning CA.Device.meaning CB.Device.meaning self.old.engine) (held self.old) }
+        ensures engine { view S.meaning self.new.engine ≡ step (view S.meaning self.old.engine) (held self.old) }
     {
-        let held = self.held;
-        let n = self.len;
-        self.len = 0;
-        self.engine.frame(&held[0..n])
+        let answer = self.engine.frame(self.held.as_slice());
+        self.held.clear();
+        answer
     }
 }
 

@@ -9,5 +9,4 @@ returns-then-b-eq10 g c =
 
 pub returns : goal.returns
 returns g c =
-    goes_other _ _ _ _ c.args.b c.if-b-eq10.false
-    (ap (view g.R.Device.meaning g.O.Device.meaning g.CA.Device.meaning g.CB.Device.meaning) c.keep.ensures.engine) c.keep.ensures.held
+    goes_other _ _ _ _ c.args.b c.if-b-eq10.false (ap (view g.S.Sockets.meaning) c.keep.ensures.engine) c.keep.ensures.held

@@ -1,16 +1,17 @@
-use Rattle.std.proofs.Common.{◌≡◌, ◌-◌, ◌*◌, ◌≤◌, take, drop}
+use Rattle.std.proofs.Common.{◌≡◌, ◌-◌, ◌*◌, ◌≤◌, length, take, drop}
 use Rattle.machine.specs.View.{view}
 use Rattle.link.specs.Stream.{GoesOn}
 use Rattle.link.specs.View.{held}
 use Rattle.link.proofs.link.Link.receive.Given as goal
 
--- what the contract says of all bytes that are taken holds of those up to `at`
-abbrev pub invariant-loop-at : goal.invariant-loop-at
-invariant-loop-at g l =
-    (l.written ≤ 13 * l.at)
-    × (l.at ≤ l.read)
-    × GoesOn (view g.R.Device.meaning g.O.Device.meaning g.CA.Device.meaning g.CB.Device.meaning l.initial.self.engine) (held l.initial.self) (view g.R.Device.meaning g.O.Device.meaning g.CA.Device.meaning g.CB.Device.meaning l.self.engine) (held l.self) (take l.at l.chunk) (take l.written l.out)
+-- what the contract says of all bytes that are taken holds of those before `rest`
+abbrev pub invariant-loop-rest : goal.invariant-loop-rest
+invariant-loop-rest g l =
+    (l.rest ≡ take (length l.rest) (drop (l.read - length l.rest) l.chunk))
+    × (length l.rest ≤ l.read)
+    × (l.written ≤ 13 * (l.read - length l.rest))
+    × GoesOn (view g.S.Sockets.meaning l.initial.self.engine) (held l.initial.self) (view g.S.Sockets.meaning l.self.engine) (held l.self) (take (l.read - length l.rest) l.chunk) (take l.written l.out)
     × (drop l.written l.out ≡ drop l.written l.initial.out)
 
-abbrev pub decreases-loop-at : goal.decreases-loop-at
-decreases-loop-at g l = l.read - l.at
+abbrev pub decreases-loop-rest : goal.decreases-loop-rest
+decreases-loop-rest g l = length l.rest

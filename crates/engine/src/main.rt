@@ -27,19 +27,12 @@ fn main(rt: HostRuntime) -> ExitCode {
 }
 
 fn start(rt: &HostRuntime) -> Result<(), Fault> {
-    let mut words = match env::args(rt) {
-        Ok(words) => words,
-        Err(e) => return Err(Fault::Arguments(e)),
-    };
+    let mut words = env::args(rt).map_err(Fault::Arguments)?;
     let _ = words.next();
     match words.next() {
         None => run(rt),
-        Some(word) => {
-            if word.as_str() == "--help" {
-                return help(rt);
-            }
-            Err(Fault::Usage)
-        }
+        Some(word) if word.as_str() == "--help" => help(rt),
+        Some(_) => Err(Fault::Usage),
     }
 }
 
@@ -64,12 +57,8 @@ fn run(rt: &HostRuntime) -> Result<(), Fault> {
     for _ in 0..u64::MAX {
         let n = match rt.stdin().read(block.as_mut_slice()) {
             Ok(n) => n,
-            Err(e) => {
-                if e.kind() == ErrorKind::Interrupted {
-                    continue;
-                }
-                return Err(Fault::Input(e));
-            }
+            Err(e) if e.kind() == ErrorKind::Interrupted => continue,
+            Err(e) => return Err(Fault::Input(e)),
         };
         if n == 0 {
             break;
@@ -86,8 +75,6 @@ fn run(rt: &HostRuntime) -> Result<(), Fault> {
 
 // Standard output has no buffer, so nothing is held back.
 fn send(rt: &HostRuntime, answers: &[u8]) -> Result<(), Fault> {
-    match rt.stdout().write_all(answers) {
-        Ok(()) => Ok(()),
-        Err(e) => Err(Fault::Output(e)),
-    }
+    rt.stdout().write_all(answers)?;
+    Ok(())
 }

@@ -3,41 +3,52 @@
 // nothing of the balance.
 #![tactic(auto)]
 
-use frames::Answer;
-use machine::Engine;
-use ram::Ram;
-use registers::State;
-use rom::Empty;
+mod bench;
+mod frame;
 
-type Bench<'a> = Engine<Ram<'a>, Empty, Empty, Empty>;
+use bench::Bench;
+use frame::Frame;
+use frames::Kind;
+use registers::{Register, State};
 
-// The level of each channel, and a peak that was measured on it.
-const LEVELS: [u8; 4] = [0xC8, 0xD2, 0xDC, 0xE6];
-
-const PEAKS: [u8; 4] = [0xD0, 0xC0, 0xF0, 0xE6];
-
-// Where the table stands in the processor's memory.
-const TABLE: u32 = 0x00100;
-
-// What ends Suspend.
+// A channel of the timer.
 #[derive(Clone, Copy)]
-enum Waker {
-    RingAndPress,
-    Alarm,
+struct Channel {
+    // Where its level stands in the processor's memory.
+    address: u32,
+    level: u16,
+    // A peak that was measured on it.
+    peak: u16,
 }
 
-// What is handed in: a frame's kind and its fields.
-#[derive(Clone, Copy)]
-struct Frame {
-    kind: u8,
-    a: u32,
-    v: u16,
-}
+const CHANNELS: [Channel; 4] = [
+    Channel {
+        address: 0x00100,
+        level: 0xC8,
+        peak: 0xD0,
+    },
+    Channel {
+        address: 0x00101,
+        level: 0xD2,
+        peak: 0xC0,
+    },
+    Channel {
+        address: 0x00102,
+        level: 0xDC,
+        peak: 0xF0,
+    },
+    Channel {
+        address: 0x00103,
+        level: 0xE6,
+        peak: 0xE6,
+    },
+];
 
-impl Frame {
-    fn new(kind: u8, a: u32, v: u16) -> Frame {
-        Frame { kind, a, v }
-    }
+// What is chosen for Suspend: what may end it, and the power outputs in it.
+#[derive(Clone, Copy)]
+struct Choice {
+    wake: u16,
+    outputs: u16,
 }
 
 fn main(rt: HostRuntime) -> anyhow::Result<()> {
@@ -46,145 +57,91 @@ fn main(rt: HostRuntime) -> anyhow::Result<()> {
 
 fn tell_all(rt: &HostRuntime) -> anyhow::Result<()> {
     println!(rt; "With RAM powered in Suspend:")?;
-    tell(rt, 0x02, Waker::RingAndPress)?;
+    let one_ring = Choice {
+        wake: 0x01,
+        outputs: 0x02,
+    };
+    tell(rt, one_ring, |bench| ring_and_press(bench))?;
     println!(rt; "With RAM unpowered in Suspend:")?;
-    tell(rt, 0x00, Waker::RingAndPress)?;
+    let unpowered = Choice {
+        outputs: 0x00,
+        ..one_ring
+    };
+    tell(rt, unpowered, |bench| ring_and_press(bench))?;
     println!(rt; "With RAM powered in Suspend, and only the alarm enabled:")?;
-    tell(rt, 0x02, Waker::Alarm)
+    let alarm = Choice {
+        wake: 0x08,
+        ..one_ring
+    };
+    tell(rt, alarm, |bench| ring_and_alarm(bench))
 }
 
-// The whole story, with these power outputs in Suspend.
-fn tell(rt: &HostRuntime, outputs: u16, waker: Waker) -> anyhow::Result<()> {
+// The whole story, with what is chosen for Suspend, and what ends it.
+fn tell<F: FnOnce(&mut Bench) -> anyhow::Result<()>>(
+    rt: &HostRuntime,
+    choice: Choice,
+    end: F,
+) -> anyhow::Result<()>
+    requires { F.IsAlwaysCallable end }
+{
     let mut bytes = vec![in rt.alloc(); 0u8; 16_384]?;
-    let mut bench = Engine::new(Ram::new(bytes.as_mut_slice()), Empty, Empty, Empty);
-    load(rt, &mut bench)?;
-    suspend(rt, &mut bench, outputs, waker)?;
-    match waker {
-        Waker::RingAndPress => ring_and_press(rt, &mut bench)?,
-        Waker::Alarm => ring_and_alarm(rt, &mut bench)?,
-    }
-    judge(rt, &mut bench)
+    let mut bench = Bench::new(rt, bytes.as_mut_slice());
+    load(&mut bench)?;
+    suspend(&mut bench, choice)?;
+    end(&mut bench)?;
+    judge(&mut bench)
 }
 
-fn load(rt: &HostRuntime, bench: &mut Bench) -> anyhow::Result<()> {
-    act(rt, bench, Frame::new(0x03, 0, 0x8000), "map page 0 to RAM")?;
-    let mut at = TABLE;
-    for level in LEVELS.iter() {
-        act(
-            rt,
-            bench,
-            Frame::new(0x05, at, u16::from(*level)),
-            "store a level",
-        )?;
-        at = at.wrapping_add(1);
+fn load(bench: &mut Bench) -> anyhow::Result<()> {
+    bench.act(Frame::new(Kind::PageWrite, 0, 0x8000), "map page 0 to RAM")?;
+    for channel in CHANNELS {
+        let store = Frame::new(Kind::CpuWrite, channel.address, channel.level);
+        bench.act(store, "store a level")?;
     }
     Ok(())
 }
 
-fn suspend(rt: &HostRuntime, bench: &mut Bench, outputs: u16, waker: Waker) -> anyhow::Result<()> {
-    let wake = match waker {
-        Waker::RingAndPress => 0x01,
-        Waker::Alarm => 0x08,
-    };
-    act(
-        rt,
-        bench,
-        Frame::new(0x01, 0x06, wake),
+fn suspend(bench: &mut Bench, choice: Choice) -> anyhow::Result<()> {
+    bench.act(
+        Frame::write(Register::Wake, choice.wake),
         "choose what may wake",
     )?;
-    act(
-        rt,
-        bench,
-        Frame::new(0x01, 0x0B, outputs),
+    bench.act(
+        Frame::write(Register::SuspendOutputs, choice.outputs),
         "choose the outputs in Suspend",
     )?;
-    act(
-        rt,
-        bench,
-        Frame::new(0x10, 0, 0),
+    bench.act(
+        Frame::input(Kind::Tick, 0),
         "a clock sample finds the button low",
     )?;
-    act(rt, bench, Frame::new(0x10, 0, 0), "and another")?;
-    act(rt, bench, Frame::new(0x01, 0x00, 3), "suspend")?;
+    bench.act(Frame::input(Kind::Tick, 0), "and another")?;
+    bench.act(
+        Frame::write(Register::State, u16::from(State::Suspend.number())),
+        "suspend",
+    )?;
     Ok(())
 }
 
 // No clock sample comes between the two.
-fn ring_and_press(rt: &HostRuntime, bench: &mut Bench) -> anyhow::Result<()> {
-    let rung = act(rt, bench, Frame::new(0x13, 0, 1), "the telephone rings")?;
-    let pressed = act(rt, bench, Frame::new(0x12, 0, 1), "the button is pressed")?;
-    report(rt, rung.state == State::On && pressed.state == State::On)
+fn ring_and_press(bench: &mut Bench) -> anyhow::Result<()> {
+    let rung = bench.act(Frame::input(Kind::Ring, 1), "the telephone rings")?;
+    let pressed = bench.act(Frame::input(Kind::Ext, 1), "the button is pressed")?;
+    bench.report(rung.state == State::On && pressed.state == State::On)
 }
 
 // The ring count is 0, so the telephone does not wake.
-fn ring_and_alarm(rt: &HostRuntime, bench: &mut Bench) -> anyhow::Result<()> {
-    let rung = act(rt, bench, Frame::new(0x13, 0, 1), "the telephone rings")?;
-    let alarmed = act(rt, bench, Frame::new(0x14, 0, 0), "the alarm goes off")?;
-    report(
-        rt,
-        rung.state == State::Suspend && alarmed.state == State::On,
-    )
-}
-
-fn report(rt: &HostRuntime, expected: bool) -> anyhow::Result<()> {
-    if expected {
-        println!(rt; "awake, and never in Off on the way")?;
-    } else {
-        println!(rt; "NOT AS EXPECTED")?;
-    }
-    Ok(())
+fn ring_and_alarm(bench: &mut Bench) -> anyhow::Result<()> {
+    let rung = bench.act(Frame::input(Kind::Ring, 1), "the telephone rings")?;
+    let alarmed = bench.act(Frame::input(Kind::Alarm, 0), "the alarm goes off")?;
+    bench.report(rung.state == State::Suspend && alarmed.state == State::On)
 }
 
 // Reads the table back, and says of each peak whether it is still taken as clipped.
-fn judge(rt: &HostRuntime, bench: &mut Bench) -> anyhow::Result<()> {
-    let mut at = TABLE;
-    for (level, peak) in LEVELS.iter().zip(PEAKS.iter()) {
-        judge_channel(rt, bench, at, u16::from(*level), u16::from(*peak))?;
-        at = at.wrapping_add(1);
+fn judge(bench: &mut Bench) -> anyhow::Result<()> {
+    for channel in CHANNELS {
+        let load = Frame::new(Kind::CpuRead, channel.address, 0);
+        let level = bench.act(load, "read a level back")?.value();
+        bench.tell_peak(channel.peak, level, channel.level)?;
     }
     Ok(())
-}
-
-fn judge_channel(
-    rt: &HostRuntime,
-    bench: &mut Bench,
-    at: u32,
-    level: u16,
-    peak: u16,
-) -> anyhow::Result<()> {
-    let read = act(rt, bench, Frame::new(0x06, at, 0), "read a level back")?.value();
-    let now = verdict(peak, read);
-    let told = compared(peak >= read, peak >= level);
-    println!(rt; "peak {peak:02X}h at level {read:02X}h: {now}, {told}")?;
-    Ok(())
-}
-
-fn verdict(peak: u16, level: u16) -> &'static str {
-    if peak >= level {
-        "clipped"
-    } else {
-        "not clipped"
-    }
-}
-
-fn compared(now: bool, before: bool) -> &'static str {
-    if now == before {
-        "as before"
-    } else {
-        "NOT AS BEFORE"
-    }
-}
-
-// Hands one frame in, and prints it with its answer and why it was handed in.
-fn act(rt: &HostRuntime, bench: &mut Bench, frame: Frame, why: &str) -> anyhow::Result<Answer> {
-    let Frame { kind, a, v } = frame;
-    let line = format!(in rt.alloc(); "{kind:02X}{a:06X}{v:04X}")?;
-    let answer = bench.frame(line.as_bytes());
-    let number = answer.number();
-    let value = answer.value();
-    let state = answer.state.number();
-    let outputs = answer.outputs;
-    let interrupt = u8::from(answer.interrupt);
-    println!(rt; "{line} {number:02X}{value:04X}{state:02X}{outputs:02X}{interrupt:02X}  {why}")?;
-    Ok(answer)
 }

@@ -1,5 +1,6 @@
 // Two devices side by side.
 ghost use Rattle.std.specs.Prelude.{◌≡◌, ◌≤◌};
+ghost use Rattle.std.proofs.Common.{rules};
 ghost use Rattle.pair.specs.Pair.{paired, Lies};
 ghost use Rattle.terms.specs.Limits.{places};
 
@@ -7,13 +8,14 @@ use device::Device;
 use terms::{Fault, PLACES, Place};
 
 // A pair: two devices that are one, with its even places in the first and its odd places in the second.
-#[derive(Drop)]
+#[derive(Debug, Drop)]
 pub struct Pair<E, O> {
     even: E,
     odd: O,
 }
 
 // Which of the two devices, the pair's chips, has a place, and which place it is there.
+// Each caller names both: a helper over closures would be one for `&self` and one for `&mut self`, for three callers.
 enum Chip {
     Even(Place),
     Odd(Place),
@@ -31,8 +33,7 @@ impl<E: Device, O: Device> Pair<E, O> {
         ensures even { result.0 ≡ self.even }
         ensures odd { result.1 ≡ self.odd }
     {
-        let Pair { even, odd } = self;
-        (even, odd)
+        (self.even, self.odd)
     }
 
     // The pair ends where its shorter chip ends.
@@ -63,17 +64,17 @@ impl<E: Device, O: Device> Pair<E, O> {
 impl<E: Device, O: Device> Device for Pair<E, O> {
     ghost meaning = { λ p. paired (E.Device.meaning p.even) (O.Device.meaning p.odd) };
 
+    ghost bounded = { λ p. Prim.search rules };
+
     fn size(&self) -> u32 {
         self.places()
     }
 
     fn is_open(&self, place: Place) -> bool {
-        let Ok(chip) = self.locate(place) else {
-            return false;
-        };
-        match chip {
-            Chip::Even(half) => self.even.is_open(half),
-            Chip::Odd(half) => self.odd.is_open(half),
+        match self.locate(place) {
+            Ok(Chip::Even(half)) => self.even.is_open(half),
+            Ok(Chip::Odd(half)) => self.odd.is_open(half),
+            Err(_) => false,
         }
     }
 

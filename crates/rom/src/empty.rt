@@ -1,14 +1,17 @@
 // An empty socket: a device with no places.
+ghost use Rattle.std.proofs.Common.{rules};
 ghost use Rattle.device.specs.Kinds.{empty};
 
 use device::Device;
 use terms::{Fault, Place};
 
-#[derive(Clone, Copy)]
+#[derive(Clone, Copy, Debug, PartialEq, Eq)]
 pub struct Empty;
 
 impl Device for Empty {
     ghost meaning = { λ _. empty };
+
+    ghost bounded = { λ _. Prim.search rules };
 
     fn size(&self) -> u32 {
         0

@@ -1,12 +1,15 @@
 // ROM over the caller's bytes: no place can be written, and every place keeps its byte without power.
 ghost use Rattle.std.specs.Prelude.{◌≡◌, take};
+ghost use Rattle.std.proofs.Common.{rules};
 ghost use Rattle.device.specs.Kinds.{read_only};
 ghost use Rattle.terms.specs.Limits.{places};
 
 use device::{Device, bytes};
 use terms::{Fault, Place};
 
-#[derive(Drop)]
+// A RAM chip has its bytes alone and a ROM shares them: a type for both would be generic over the reference, for the
+// sake of `size` and `read`, a line each.
+#[derive(Clone, Copy, Debug, PartialEq, Eq)]
 pub struct Rom<'a> {
     bytes: &'a [u8],
 }
@@ -31,6 +34,8 @@ impl<'a> Rom<'a> {
 
 impl Device for Rom<'_> {
     ghost meaning = { λ rom. read_only rom.bytes.now };
+
+    ghost bounded = { λ rom. Prim.search rules };
 
     fn size(&self) -> u32 {
         bytes::size(self.bytes)

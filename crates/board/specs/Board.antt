@@ -14,6 +14,8 @@ use Rattle.rom.specs.declared.rom.Rom.{Rom}
 use Rattle.rom.specs.declared.empty.Empty.{Empty}
 use Rattle.board.specs.declared.memory.Memory.{Memory}
 use Rattle.rules.specs.Machine.{Machine, fresh}
+use Rattle.machine.specs.Sockets.{Meanings}
+use Rattle.machine.specs.declared.sockets.Devices.{Devices}
 
 -- how many bytes each chip has
 abbrev pub chip : ℕ
@@ -31,6 +33,9 @@ card_of g = guarded g.segments g.flags (backed g.device.bytes.now)
 
 abbrev pub none_of : Empty → Meaning
 none_of e = empty
+
+abbrev pub sockets_of : Devices (Pair (Chip plain) (Chip plain)) Rom (Guard (Chip battery)) Empty → Meanings
+sockets_of d = record { ram = chips_of d.ram; rom = rom_of d.rom; card_a = card_of d.card_a; card_b = none_of d.card_b }
 
 -- the flags of the card: only the first is set
 abbrev pub card_flags : List Bool

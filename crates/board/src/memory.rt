@@ -1,13 +1,13 @@
 // The board that the program runs on: what stands in its four sockets.
 ghost use Rattle.std.specs.Prelude.{◌≡◌, [], length, replicate, IfOk};
-ghost use Rattle.board.specs.Board.{chip, chips_of, rom_of, card_of, none_of, card_flags, board, Burnt, New};
+ghost use Rattle.board.specs.Board.{chip, sockets_of, card_flags, board, Burnt, New};
 ghost use Rattle.link.specs.View.{held};
 ghost use Rattle.machine.specs.View.{view};
 ghost use Rattle.guard.specs.declared.guard.SegmentSize.TheVariants.{Places2048};
 
 use guard::{Guard, SegmentSize};
 use link::Link;
-use machine::Engine;
+use machine::{Devices, Engine};
 use pair::Pair;
 use ram::{BackedRam, Ram};
 use rom::{Empty, Rom};
@@ -26,7 +26,9 @@ pub struct Memory {
 }
 
 // A link to an engine on the board: two RAM chips side by side, a ROM, a write-protected card, and an empty socket.
-pub type BoardLink<'a> = Link<Pair<Ram<'a>, Ram<'a>>, Rom<'a>, Guard<BackedRam<'a>>, Empty>;
+pub type BoardLink<'a> = Link<BoardDevices<'a>>;
+
+pub type BoardDevices<'a> = Devices<Pair<Ram<'a>, Ram<'a>>, Rom<'a>, Guard<BackedRam<'a>>, Empty>;
 
 impl Memory {
     pub fn new(heap: Global) -> Result<Memory, AllocError>
@@ -42,7 +44,7 @@ impl Memory {
 
     // A new engine on the board.
     pub fn link(&mut self) -> BoardLink<'_>
-        ensures machine { view chips_of rom_of card_of none_of result.engine ≡ board self.old.even.items self.old.odd.items self.old.rom.items self.old.card.items }
+        ensures machine { view sockets_of result.engine ≡ board self.old.even.items self.old.odd.items self.old.rom.items self.old.card.items }
         ensures held { held result ≡ [] }
     {
         assemble(
@@ -61,12 +63,16 @@ pub fn assemble<'a>(
     rom: &'a [u8],
     card: &'a mut [u8],
 ) -> BoardLink<'a>
-    ensures machine { view chips_of rom_of card_of none_of result.engine ≡ board even.old odd.old rom.now card.old }
+    ensures machine { view sockets_of result.engine ≡ board even.old odd.old rom.now card.old }
     ensures held { held result ≡ [] }
 {
-    let ram = Pair::new(Ram::new(even), Ram::new(odd));
-    let card_a = protected(BackedRam::new(card));
-    Link::new(Engine::new(ram, Rom::new(rom), card_a, Empty))
+    let sockets = Devices {
+        ram: Pair::new(Ram::new(even), Ram::new(odd)),
+        rom: Rom::new(rom),
+        card_a: protected(BackedRam::new(card)),
+        card_b: Empty,
+    };
+    Link::new(Engine::new(sockets))
 }
 
 // A card of which the first 2,048 places are write-protected.
@@ -100,7 +106,7 @@ pub fn burn(bytes: &mut [u8])
     ensures bytes { Burnt bytes.new }
     ensures len { length bytes.new ≡ length bytes.old }
 {
-    for p in 0..bytes.len() {
-        bytes[p] = (p % 251) as u8;
+    for (p, byte) in bytes.iter_mut().enumerate() {
+        *byte = (p % 251) as u8;
     }
 }

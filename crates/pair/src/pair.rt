@@ -52,7 +52,7 @@ impl<E: Device, O: Device> Pair<E, O> {
         if index >= self.places() {
             return Err(Fault::NoSuchPlace);
         }
-        let half = Place::new(index / 2).ok_or(Fault::NoSuchPlace)?;
+        let half = Place::try_from(index / 2)?;
         if index % 2 == 0 {
             Ok(Chip::Even(half))
         } else {

@@ -29,12 +29,14 @@ fn a_word_and_its_parts_are_one_for_one(rt: HostRuntime) -> Result<(), Fail> {
 
 fn check_word(rt: &impl Abort, expected: Split) -> Result<(), Fail> {
     let Split(word, mapped, readonly, socket, page) = expected;
-    let parts = split(word);
-    let flags = parts.mapped == mapped && parts.readonly == readonly;
-    let numbers = parts.socket == socket && parts.page == page;
-    assert!(rt; flags && numbers, "{word}");
-    let joined = join(parts);
-    assert!(rt; matches!(joined, Ok(w) if w == word), "{word}");
+    let parts = PageParts {
+        mapped,
+        readonly,
+        socket,
+        page,
+    };
+    assert_eq!(rt; split(word), parts, "{word}");
+    assert_eq!(rt; join(parts), Ok(word), "{word}");
     Ok(())
 }
 
@@ -53,5 +55,5 @@ fn is_refused(socket: u8, page: u16) -> bool {
         socket,
         page,
     };
-    matches!(join(parts), Err(Refusal::IndexTooLarge))
+    join(parts) == Err(Refusal::IndexTooLarge)
 }

@@ -7,9 +7,8 @@ use rom::{Empty, Rom};
 use std::test::Fail;
 use terms::{Fault, Place, Refusal};
 
-// The place of that index, or the index that is none.
-fn place(index: u32) -> Result<Place, u32> {
-    Place::new(index).ok_or(index)
+fn place(index: u32) -> Result<Place, Fault> {
+    Place::try_from(index)
 }
 
 #[test]
@@ -20,17 +19,18 @@ fn a_guard_over_a_pair_of_a_guard_and_a_rom(rt: HostRuntime) -> Result<(), Fail>
     let pair = Pair::new(guarded, Rom::new(&rom));
     let mut stack = Guard::new(pair, SegmentSize::Places4096);
     assert_eq!(rt; stack.size(), 4, "twice the shorter");
-    assert!(rt; matches!(stack.write(place(2)?, 99), Ok(())));
-    assert!(rt; matches!(stack.read(place(2)?), Ok(99)));
-    assert!(rt; matches!(stack.write(place(3)?, 99), Err(Fault::WriteProtected)));
-    assert!(rt; matches!(stack.read(place(3)?), Ok(21)));
-    assert!(rt; matches!(stack.write(place(4)?, 99), Err(Fault::NoSuchPlace)));
-    assert!(rt; matches!(stack.read(place(4)?), Err(Fault::NoSuchPlace)));
+    assert_eq!(rt; stack.write(place(2)?, 99), Ok(()));
+    assert_eq!(rt; stack.read(place(2)?), Ok(99));
+    assert_eq!(rt; stack.write(place(3)?, 99), Err(Fault::WriteProtected));
+    assert_eq!(rt; stack.read(place(3)?), Ok(21));
+    assert_eq!(rt; stack.write(place(4)?, 99), Err(Fault::NoSuchPlace));
+    assert_eq!(rt; stack.read(place(4)?), Err(Fault::NoSuchPlace));
     assert!(rt; stack.protect(0).is_ok());
     assert!(rt; !stack.is_open(place(2)?));
-    assert!(rt; matches!(stack.write(place(2)?, 1), Err(Fault::WriteProtected)));
-    assert!(rt;
-        matches!(stack.write(place(4)?, 1), Err(Fault::NoSuchPlace)),
+    assert_eq!(rt; stack.write(place(2)?, 1), Err(Fault::WriteProtected));
+    assert_eq!(rt;
+        stack.write(place(4)?, 1),
+        Err(Fault::NoSuchPlace),
         "beyond the end comes first"
     );
     Ok(())
@@ -41,10 +41,10 @@ fn sizes_none_and_one(rt: HostRuntime) -> Result<(), Fail> {
     let one = [5];
     let none = Pair::new(Rom::new(&one), Empty);
     assert_eq!(rt; none.size(), 0);
-    assert!(rt; matches!(none.read(place(0)?), Err(Fault::NoSuchPlace)));
+    assert_eq!(rt; none.read(place(0)?), Err(Fault::NoSuchPlace));
     let both = Pair::new(Rom::new(&one), Rom::new(&one));
     assert_eq!(rt; both.size(), 2);
-    assert!(rt; matches!(both.read(place(1)?), Ok(5)));
+    assert_eq!(rt; both.read(place(1)?), Ok(5));
     Ok(())
 }
 
@@ -53,26 +53,26 @@ fn a_segment_ends_at_its_last_place(rt: HostRuntime) -> Result<(), Fail> {
     let mut bytes = [0; 4096];
     let mut guard = Guard::new(Ram::new(&mut bytes), SegmentSize::Places2048);
     assert!(rt; guard.protect(0).is_ok());
-    assert!(rt; matches!(guard.write(place(2047)?, 1), Err(Fault::WriteProtected)));
-    assert!(rt; matches!(guard.write(place(2048)?, 1), Ok(())));
+    assert_eq!(rt; guard.write(place(2047)?, 1), Err(Fault::WriteProtected));
+    assert_eq!(rt; guard.write(place(2048)?, 1), Ok(()));
     Ok(())
 }
 
 #[test]
 fn a_flag_number_may_be_too_large(rt: HostRuntime) {
     let mut guard = Guard::new(Empty, SegmentSize::Places4096);
-    assert!(rt; matches!(guard.protect(255), Ok(())));
-    assert!(rt; matches!(guard.protect(256), Err(Refusal::IndexTooLarge)));
+    assert_eq!(rt; guard.protect(255), Ok(()));
+    assert_eq!(rt; guard.protect(256), Err(Refusal::IndexTooLarge));
 }
 
 #[test]
 fn an_image_stays_within_the_end(rt: HostRuntime) {
     let mut bytes = [0; 4];
     let mut ram = Ram::new(&mut bytes);
-    assert!(rt; matches!(ram.load(1, &[7, 8, 9]), Ok(())));
-    assert!(rt; matches!(ram.load(2, &[1, 1, 1]), Err(Fault::NoSuchPlace)));
-    assert!(rt; matches!(ram.load(4, &[]), Ok(())), "empty, at the end");
-    assert!(rt; matches!(ram.load(5, &[]), Err(Fault::NoSuchPlace)));
+    assert_eq!(rt; ram.load(1, &[7, 8, 9]), Ok(()));
+    assert_eq!(rt; ram.load(2, &[1, 1, 1]), Err(Fault::NoSuchPlace));
+    assert_eq!(rt; ram.load(4, &[]), Ok(()), "empty, at the end");
+    assert_eq!(rt; ram.load(5, &[]), Err(Fault::NoSuchPlace));
     assert!(rt; matches!(ram.into_bytes(), [0, 7, 8, 9]));
 }
 
@@ -82,8 +82,8 @@ fn a_power_loss_reaches_volatile_places_only(rt: HostRuntime) -> Result<(), Fail
     let mut kept = [3, 4];
     let mut pair = Pair::new(Ram::new(&mut lost), BackedRam::new(&mut kept));
     pair.lose_power();
-    assert!(rt; matches!(pair.read(place(2)?), Ok(0xFF)));
-    assert!(rt; matches!(pair.read(place(3)?), Ok(4)));
+    assert_eq!(rt; pair.read(place(2)?), Ok(0xFF));
+    assert_eq!(rt; pair.read(place(3)?), Ok(4));
     Ok(())
 }
 
@@ -91,7 +91,7 @@ fn a_power_loss_reaches_volatile_places_only(rt: HostRuntime) -> Result<(), Fail
 fn a_pair_of_chips_of_one_byte_ends_at_its_second_place(rt: HostRuntime) -> Result<(), Fail> {
     let one = [5];
     let both = Pair::new(Rom::new(&one), Rom::new(&one));
-    assert!(rt; matches!(both.read(place(2)?), Err(Fault::NoSuchPlace)));
+    assert_eq!(rt; both.read(place(2)?), Err(Fault::NoSuchPlace));
     Ok(())
 }
 
@@ -102,10 +102,10 @@ fn a_flag_closes_a_place_and_leaves_its_byte(rt: HostRuntime) -> Result<(), Fail
     let guarded = Guard::new(Ram::new(&mut ram), SegmentSize::Places2048);
     let pair = Pair::new(guarded, Rom::new(&rom));
     let mut stack = Guard::new(pair, SegmentSize::Places4096);
-    assert!(rt; matches!(stack.write(place(2)?, 99), Ok(())));
+    assert_eq!(rt; stack.write(place(2)?, 99), Ok(()));
     assert!(rt; stack.is_open(place(2)?));
     assert!(rt; stack.protect(0).is_ok());
-    assert!(rt; matches!(stack.write(place(2)?, 1), Err(Fault::WriteProtected)));
-    assert!(rt; matches!(stack.read(place(2)?), Ok(99)));
+    assert_eq!(rt; stack.write(place(2)?, 1), Err(Fault::WriteProtected));
+    assert_eq!(rt; stack.read(place(2)?), Ok(99));
     Ok(())
 }

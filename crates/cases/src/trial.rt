@@ -2,9 +2,9 @@
 ghost use Rattle.std.specs.Prelude.{◌≤◌, length};
 
 use board::{assemble, burn};
-use device::Device;
 use frames::ANSWER_LENGTH;
 use link::Link;
+use machine::Sockets;
 use std::process::Abort;
 use std::test::*;
 
@@ -21,16 +21,13 @@ pub trait Answers {
     fn answer_end(&mut self) -> Option<[u8; ANSWER_LENGTH]>;
 }
 
-impl<R: Device, O: Device, CA: Device, CB: Device> Answers for Link<R, O, CA, CB> {
+impl<S: Sockets> Answers for Link<S> {
     fn answer(&mut self, chunk: &[u8], out: &mut [u8]) -> usize {
         self.receive(chunk, out).written
     }
 
     fn answer_end(&mut self) -> Option<[u8; ANSWER_LENGTH]> {
-        match self.finish() {
-            Some(answer) => Some(answer.spell()),
-            None => None,
-        }
+        self.finish().map(|answer| answer.spell())
     }
 }
 

@@ -42,7 +42,8 @@ impl<'a, const BACKED: bool> Chip<'a, BACKED> {
         if end > self.bytes.len() {
             return Err(Fault::NoSuchPlace);
         }
-        self.bytes[start..end].copy_from_slice(image);
+        let places = &mut self.bytes[start..];
+        places[0..image.len()].copy_from_slice(image);
         Ok(())
     }
 

@@ -156,3 +156,7 @@ rest_turn chunk rest read t lies few within =
 -- what both lists have after w they have after j more
 pub rest_more : (xs ys : List ℕ) (w j : ℕ) → drop w xs ≡ drop w ys → drop (w + j) xs ≡ drop (w + j) ys
 rest_more xs ys w j e = sym (drop-drop j w xs) ∙ ap (drop j) e ∙ drop-drop j w ys
+
+-- a link over a new engine begins with the machine that the engine stands for
+pub begins : {first m m' : Machine} {held : List ℕ} → m ≡ first → Stands m [] m' held → Stands first [] m' held
+begins {m' = m'} {held = held} e s = subst (λ (x : Machine). Stands x [] m' held) e s

@@ -1,5 +1,5 @@
-use Rattle.board.proofs.Chips.{given}
+use Rattle.std.proofs.lemmas.Result.{IfOk-weaker}
 use Rattle.board.proofs.memory.clear_chip.Goals as goal
 
 pub returns : goal.returns
-returns c = given _ _ c.vec.result c.vec.ensures.items_if_clones_equal (λ y e. e)
+returns c = IfOk-weaker c.vec.result _ _ (λ v items. items (λ y e. e)) c.vec.ensures.items_if_clones_equal

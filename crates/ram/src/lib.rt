@@ -1,9 +1,6 @@
 // RAM, and RAM with a battery, over the caller's bytes.
 #![tactic(auto)]
 
-mod backed;
-mod bytes;
 mod ram;
 
-pub use backed::BackedRam;
-pub use ram::Ram;
+pub use ram::{BackedRam, Chip, Ram};

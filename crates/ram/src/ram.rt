@@ -1,25 +1,32 @@
-// RAM over the caller's bytes: every place can be written, and none keeps its byte without power.
-ghost use Rattle.std.specs.Prelude.{◌≡◌, length, take};
+// RAM over the caller's bytes, with or without a battery: every place can be written.
+ghost use Rattle.std.specs.Prelude.{◌≡◌, true, length, take, slice_set};
 ghost use Rattle.ram.specs.Image.{load_at, loaded};
-ghost use Rattle.device.specs.Kinds.{volatile};
+ghost use Rattle.device.specs.Kinds.{backed, uniform};
+ghost use Rattle.device.specs.Meaning.{write_at};
 ghost use Rattle.terms.specs.Limits.{places};
 
-use crate::bytes;
-use device::Device;
+use device::{Device, bytes};
 use terms::{Fault, Place};
 
+// A RAM chip. A battery behind it, if there is one, keeps every byte without power.
 #[derive(Drop)]
-pub struct Ram<'a> {
+pub struct Chip<'a, const BACKED: bool> {
     bytes: &'a mut [u8],
 }
 
-impl<'a> Ram<'a> {
+// RAM without a battery: no place keeps its byte without power.
+pub type Ram<'a> = Chip<'a, false>;
+
+// RAM with a battery.
+pub type BackedRam<'a> = Chip<'a, true>;
+
+impl<'a, const BACKED: bool> Chip<'a, BACKED> {
     // Bytes beyond the places that a device can have are left out, so that nothing touches them.
-    pub fn new(bytes: &'a mut [u8]) -> Ram<'a>
+    pub fn new(bytes: &'a mut [u8]) -> Chip<'a, BACKED>
         ensures { result.bytes.now ≡ take places bytes.old }
     {
         let size = bytes::size(bytes) as usize;
-        Ram {
+        Chip {
             bytes: &mut bytes[0..size],
         }
     }
@@ -29,21 +36,24 @@ impl<'a> Ram<'a> {
         ensures answer { result ≡ load_at (length self.old.bytes.now) start (length image.now) }
         ensures after { self.new.bytes.now ≡ loaded self.old.bytes.now start image.now }
     {
-        bytes::check_room(self.bytes.len(), start, image.len())?;
-        bytes::copy_front(&mut self.bytes[start..], image);
+        let room = self.bytes.len().checked_sub(start).ok_or(Fault::NoSuchPlace)?;
+        if image.len() > room {
+            return Err(Fault::NoSuchPlace);
+        }
+        self.bytes[start..start + image.len()].copy_from_slice(image);
         Ok(())
     }
 
     pub fn into_bytes(self) -> &'a mut [u8]
         ensures { result.now ≡ self.entry.bytes.now }
     {
-        let Ram { bytes } = self;
+        let Chip { bytes } = self;
         bytes
     }
 }
 
-impl Device for Ram<'_> {
-    ghost meaning = { λ ram. volatile ram.bytes.now };
+impl<const BACKED: bool> Device for Chip<'_, BACKED> {
+    ghost meaning = { λ ram. uniform true BACKED ram.bytes.now };
 
     fn size(&self) -> u32 {
         bytes::size(self.bytes)
@@ -58,10 +68,24 @@ impl Device for Ram<'_> {
     }
 
     fn write(&mut self, place: Place, value: u8) -> Result<(), Fault> {
-        bytes::write(self.bytes, place, value)
+        write(self.bytes, place, value)
     }
 
     fn lose_power(&mut self) {
-        bytes::fill(self.bytes, 0xFF);
+        if !BACKED {
+            self.bytes.fill(0xFF);
+        }
     }
+}
+
+// Writes a byte of a chip whose places are all writable.
+fn write(bytes: &mut [u8], place: Place, value: u8) -> Result<(), Fault>
+    ensures answer { result ≡ write_at (backed bytes.old) place.index }
+    ensures after { bytes.new ≡ slice_set bytes.old place.index value }
+{
+    if !bytes::holds(bytes, place) {
+        return Err(Fault::NoSuchPlace);
+    }
+    bytes[place.index() as usize] = value;
+    Ok(())
 }

@@ -9,12 +9,13 @@ ghost use Rattle.terms.specs.Limits.{places};
 use terms::{Fault, PLACES, Place};
 
 // How many of the bytes are places.
+#[tactic(auto, using(std::proofs::lemmas::List::take_min))]
 pub fn size(bytes: &[u8]) -> u32
     ensures all { result ≡ fitting (length bytes.now) }
     ensures within { result ≤ places }
     ensures cut { take result bytes.now ≡ take places bytes.now }
 {
-    bytes.len().min(PLACES as usize) as u32
+    (PLACES as usize).min(bytes.len()) as u32
 }
 
 pub fn holds(bytes: &[u8], place: Place) -> bool
@@ -26,10 +27,8 @@ pub fn holds(bytes: &[u8], place: Place) -> bool
 pub fn read(bytes: &[u8], place: Place) -> Result<u8, Fault>
     ensures { result ≡ read_at (backed bytes.now) place.index }
 {
-    let at = place.index() as usize;
-    if at < bytes.len() {
-        Ok(bytes[at])
-    } else {
-        Err(Fault::NoSuchPlace)
-    }
+    bytes
+        .get(place.index() as usize)
+        .copied()
+        .ok_or(Fault::NoSuchPlace)
 }

@@ -27,4 +27,7 @@ pub trait Device {
     // The power is lost: volatile places turn to FFh.
     fn lose_power(&mut self)
         ensures { meaning self.new ≡ faded (meaning self.old) };
+
+    // No device has more places than a place can name.
+    ghost bounded: { (device : Self) → (meaning device).size ≤ places };
 }

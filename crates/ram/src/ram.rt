@@ -1,5 +1,6 @@
 // RAM over the caller's bytes, with or without a battery: every place can be written.
 ghost use Rattle.std.specs.Prelude.{◌≡◌, true, length, take, slice_set};
+ghost use Rattle.std.proofs.Common.{rules};
 ghost use Rattle.ram.specs.Image.{load_at, loaded};
 ghost use Rattle.device.specs.Kinds.{backed, uniform};
 ghost use Rattle.device.specs.Meaning.{write_at};
@@ -36,11 +37,11 @@ impl<'a, const BACKED: bool> Chip<'a, BACKED> {
         ensures answer { result ≡ load_at (length self.old.bytes.now) start (length image.now) }
         ensures after { self.new.bytes.now ≡ loaded self.old.bytes.now start image.now }
     {
-        let room = self.bytes.len().checked_sub(start).ok_or(Fault::NoSuchPlace)?;
-        if image.len() > room {
+        let end = start.checked_add(image.len()).ok_or(Fault::NoSuchPlace)?;
+        if end > self.bytes.len() {
             return Err(Fault::NoSuchPlace);
         }
-        self.bytes[start..start + image.len()].copy_from_slice(image);
+        self.bytes[start..end].copy_from_slice(image);
         Ok(())
     }
 
@@ -54,6 +55,8 @@ impl<'a, const BACKED: bool> Chip<'a, BACKED> {
 
 impl<const BACKED: bool> Device for Chip<'_, BACKED> {
     ghost meaning = { λ ram. uniform true BACKED ram.bytes.now };
+
+    ghost bounded = { λ ram. Prim.search rules };
 
     fn size(&self) -> u32 {
         bytes::size(self.bytes)

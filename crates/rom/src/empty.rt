@@ -1,4 +1,5 @@
 // An empty socket: a device with no places.
+ghost use Rattle.std.proofs.Common.{rules};
 ghost use Rattle.device.specs.Kinds.{empty};
 
 use device::Device;
@@ -9,6 +10,8 @@ pub struct Empty;
 
 impl Device for Empty {
     ghost meaning = { λ _. empty };
+
+    ghost bounded = { λ _. Prim.search rules };
 
     fn size(&self) -> u32 {
         0

@@ -9,37 +9,29 @@ use device::Device;
 use terms::{Fault, Place, Refusal};
 
 // A segment is a run of so many places, which are protected together.
-#[derive(Clone, Copy)]
+#[derive(Clone, Copy, Debug, PartialEq, Eq)]
 pub enum SegmentSize {
-    Places2048,
-    Places4096,
+    Places2048 = 2048,
+    Places4096 = 4096,
 }
 
 impl SegmentSize {
     fn places(self) -> u32
         ensures { result ≡ segment_places self }
     {
-        match self {
-            SegmentSize::Places2048 => 2048,
-            SegmentSize::Places4096 => 4096,
-        }
+        self as u32
     }
 }
 
 const FLAGS: usize = 256;
 
-// Which of the first segments are write-protected; the segments beyond them never are.
-#[derive(Drop)]
-struct SegmentFlags {
-    protected: [bool; FLAGS],
-}
-
 // A guard: a device whose flagged segments cannot be written. All else is as in the device below.
-#[derive(Drop)]
+#[derive(Debug, Drop)]
 pub struct Guard<D> {
     device: D,
     segments: SegmentSize,
-    flags: SegmentFlags,
+    // Which of the first segments are write-protected; the segments beyond them never are.
+    flags: [bool; FLAGS],
 }
 
 impl<D: Device> Guard<D> {
@@ -47,53 +39,47 @@ impl<D: Device> Guard<D> {
     pub fn new(device: D, segments: SegmentSize) -> Guard<D>
         ensures below { result.device ≡ device }
         ensures segments { result.segments ≡ segments }
-        ensures flags { result.flags.protected ≡ replicate flag_count false }
+        ensures flags { result.flags ≡ replicate flag_count false }
     {
         Guard {
             device,
             segments,
-            flags: SegmentFlags {
-                protected: [false; FLAGS],
-            },
+            flags: [false; FLAGS],
         }
     }
 
     pub fn into_inner(self) -> D
         ensures { result ≡ self.device }
     {
-        let Guard {
-            device,
-            segments: _,
-            flags: _,
-        } = self;
+        let Guard { device, .. } = self;
         device
     }
 
     // Write-protects a segment, if it is one of those that have a flag.
     pub fn protect(&mut self, segment: u16) -> Result<(), Refusal>
         ensures answer { result ≡ (if nat_lt segment flag_count then Ok tt else Err IndexTooLarge) }
-        ensures flags { self.new.flags.protected ≡ flag self.old.flags.protected segment }
+        ensures flags { self.new.flags ≡ flag self.old.flags segment }
         ensures below { self.new.device ≡ self.old.device }
         ensures segments { self.new.segments ≡ self.old.segments }
     {
-        let segment = segment as usize;
+        let segment = usize::from(segment);
         if segment >= FLAGS {
             return Err(Refusal::IndexTooLarge);
         }
-        self.flags.protected[segment] = true;
+        self.flags[segment] = true;
         Ok(())
     }
 
     fn protects(&self, place: Place) -> bool
-        ensures { result ≡ flagged self.now.segments self.now.flags.protected place.index }
+        ensures { result ≡ flagged self.now.segments self.now.flags place.index }
     {
         let segment = (place.index() / self.segments.places()) as usize;
-        segment < FLAGS && self.flags.protected[segment]
+        self.flags.get(segment).copied().unwrap_or(false)
     }
 
     // Refuses a place in a write-protected segment. One that does not exist is left to the device below to refuse.
     fn admit(&self, place: Place) -> Result<(), Fault>
-        ensures { result ≡ (if exists (D.Device.meaning self.now.device) place.index && flagged self.now.segments self.now.flags.protected place.index then Err WriteProtected else Ok tt) }
+        ensures { result ≡ (if exists (D.Device.meaning self.now.device) place.index && flagged self.now.segments self.now.flags place.index then Err WriteProtected else Ok tt) }
     {
         if place.index() < self.device.size() && self.protects(place) {
             return Err(Fault::WriteProtected);
@@ -103,7 +89,7 @@ impl<D: Device> Guard<D> {
 }
 
 impl<D: Device> Device for Guard<D> {
-    ghost meaning = { λ g. guarded g.segments g.flags.protected (D.Device.meaning g.device) };
+    ghost meaning = { λ g. guarded g.segments g.flags (D.Device.meaning g.device) };
 
     ghost bounded = { λ g. D.Device.bounded g.device };
 

@@ -8,7 +8,7 @@ use device::Device;
 use terms::{Fault, PLACES, Place};
 
 // A pair: two devices that are one, with its even places in the first and its odd places in the second.
-#[derive(Drop)]
+#[derive(Debug, Drop)]
 pub struct Pair<E, O> {
     even: E,
     odd: O,
@@ -32,8 +32,7 @@ impl<E: Device, O: Device> Pair<E, O> {
         ensures even { result.0 ≡ self.even }
         ensures odd { result.1 ≡ self.odd }
     {
-        let Pair { even, odd } = self;
-        (even, odd)
+        (self.even, self.odd)
     }
 
     // The pair ends where its shorter chip ends.
@@ -71,12 +70,10 @@ impl<E: Device, O: Device> Device for Pair<E, O> {
     }
 
     fn is_open(&self, place: Place) -> bool {
-        let Ok(chip) = self.locate(place) else {
-            return false;
-        };
-        match chip {
-            Chip::Even(half) => self.even.is_open(half),
-            Chip::Odd(half) => self.odd.is_open(half),
+        match self.locate(place) {
+            Ok(Chip::Even(half)) => self.even.is_open(half),
+            Ok(Chip::Odd(half)) => self.odd.is_open(half),
+            Err(_) => false,
         }
     }
 

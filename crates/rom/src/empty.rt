@@ -5,7 +5,7 @@ ghost use Rattle.device.specs.Kinds.{empty};
 use device::Device;
 use terms::{Fault, Place};
 
-#[derive(Clone, Copy)]
+#[derive(Clone, Copy, Debug, PartialEq, Eq)]
 pub struct Empty;
 
 impl Device for Empty {

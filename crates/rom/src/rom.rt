@@ -7,7 +7,9 @@ ghost use Rattle.terms.specs.Limits.{places};
 use device::{Device, bytes};
 use terms::{Fault, Place};
 
-#[derive(Drop)]
+// A RAM chip has its bytes alone and a ROM shares them: a type for both would be generic over the reference, for the
+// sake of `size` and `read`, a line each.
+#[derive(Clone, Copy, Debug, PartialEq, Eq)]
 pub struct Rom<'a> {
     bytes: &'a [u8],
 }

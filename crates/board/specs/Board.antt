@@ -8,8 +8,8 @@ use Rattle.guard.specs.declared.guard.Guard.{Guard}
 use Rattle.guard.specs.declared.guard.SegmentSize.TheVariants.{Places2048}
 use Rattle.pair.specs.Pair.{paired}
 use Rattle.pair.specs.declared.pair.Pair.{Pair}
-use Rattle.ram.specs.declared.ram.Ram.{Ram}
-use Rattle.ram.specs.declared.backed.BackedRam.{BackedRam}
+use Rattle.ram.specs.Battery.{plain, battery}
+use Rattle.ram.specs.declared.ram.Chip.{Chip}
 use Rattle.rom.specs.declared.rom.Rom.{Rom}
 use Rattle.rom.specs.declared.empty.Empty.{Empty}
 use Rattle.board.specs.declared.memory.Memory.{Memory}
@@ -20,14 +20,14 @@ abbrev pub chip : ℕ
 chip = 16384
 
 -- what the devices in the four sockets mean
-abbrev pub chips_of : Pair Ram Ram → Meaning
+abbrev pub chips_of : Pair (Chip plain) (Chip plain) → Meaning
 chips_of p = paired (volatile p.even.bytes.now) (volatile p.odd.bytes.now)
 
 abbrev pub rom_of : Rom → Meaning
 rom_of r = read_only r.bytes.now
 
-abbrev pub card_of : Guard BackedRam → Meaning
-card_of g = guarded g.segments g.flags.protected (backed g.device.bytes.now)
+abbrev pub card_of : Guard (Chip battery) → Meaning
+card_of g = guarded g.segments g.flags (backed g.device.bytes.now)
 
 abbrev pub none_of : Empty → Meaning
 none_of e = empty

@@ -73,7 +73,7 @@ pub fn assemble<'a>(
 fn protected(card: BackedRam) -> Guard<BackedRam>
     ensures below { result.device.bytes.now ≡ card.entry.bytes.now }
     ensures segments { result.segments ≡ Places2048 }
-    ensures flags { result.flags.protected ≡ card_flags }
+    ensures flags { result.flags ≡ card_flags }
 {
     let mut card = Guard::new(card, SegmentSize::Places2048);
     // The first segment has a flag, so this is never refused.

@@ -28,6 +28,6 @@ pub trait Device {
     fn lose_power(&mut self)
         ensures { meaning self.new ≡ faded (meaning self.old) };
 
-    // No device has more places than a place can name.
+    // No device has more places than a `Place` can name, also where nobody asks for its size.
     ghost bounded: { (device : Self) → (meaning device).size ≤ places };
 }

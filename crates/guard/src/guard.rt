@@ -66,6 +66,7 @@ impl<D: Device> Guard<D> {
         if segment >= FLAGS {
             return Err(Refusal::IndexTooLarge);
         }
+        // By its index: what std says of `get_mut` leaves the flags open after the write.
         self.flags[segment] = true;
         Ok(())
     }

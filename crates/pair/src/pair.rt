@@ -15,6 +15,7 @@ pub struct Pair<E, O> {
 }
 
 // Which of the two devices, the pair's chips, has a place, and which place it is there.
+// Each caller names both: a helper over closures would be one for `&self` and one for `&mut self`, for three callers.
 enum Chip {
     Even(Place),
     Odd(Place),

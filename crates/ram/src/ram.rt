@@ -9,8 +9,9 @@ ghost use Rattle.terms.specs.Limits.{places};
 use device::{Device, bytes};
 use terms::{Fault, Place};
 
-// A RAM chip. A battery behind it, if there is one, keeps every byte without power.
-#[derive(Drop)]
+// A RAM chip. Its type says whether it has a battery, which keeps every byte without power.
+// A ghost field for the bound on its bytes is not to be had beside a bool parameter, so `size` cuts again what `new` cut.
+#[derive(Debug, Drop)]
 pub struct Chip<'a, const BACKED: bool> {
     bytes: &'a mut [u8],
 }
@@ -89,6 +90,7 @@ fn write(bytes: &mut [u8], place: Place, value: u8) -> Result<(), Fault>
     if !bytes::holds(bytes, place) {
         return Err(Fault::NoSuchPlace);
     }
+    // By its index: what std says of `get_mut` leaves the bytes open after the write.
     bytes[place.index() as usize] = value;
     Ok(())
 }

@@ -34,7 +34,8 @@ impl Answer {
         self.outcome.unwrap_or(0)
     }
 
-    // Number, value read, state, outputs, NMI, and the end of the line.
+    // Number, value read, state, outputs, NMI, and the end of the line. No `Display`: the contract names each byte, and an
+    // answer is written without a formatter.
     pub fn spell(&self) -> [u8; 13]
         ensures { result ≡ spelled self.now }
     {

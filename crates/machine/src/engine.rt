@@ -25,6 +25,7 @@ use registers::{Event, Register};
 use terms::{CpuAddress, CpuPage, Refusal};
 
 // An engine over what stands in its sockets.
+// No `impl Model`: its value would hold the meanings of its devices, functions, which a model cannot have.
 #[derive(Drop)]
 pub struct Engine<S> {
     power: PowerUnit,

@@ -7,6 +7,7 @@ ghost use Rattle.mapper.specs.View.{words, target_of};
 use super::{Socket, split};
 use terms::{CpuAddress, CpuPage, PAGE_SIZE, Place};
 
+// No `impl Model`: its value would be the words by page, a function, which a model cannot have.
 #[derive(Drop)]
 pub struct PageTable {
     words: [u16; 64],

@@ -143,7 +143,8 @@ impl PowerUnit {
         self.idle = TICKS_PER_LOAD * u16::from(load);
     }
 
-    // Gives the cause: it arises unless it is masked.
+    // Gives the cause: it arises unless it is masked. That the unit is awake is asked of the few callers in this crate,
+    // each of which has just looked: a type for an awake unit would be made for a single call.
     pub(crate) fn raise(&mut self, cause: Cause)
         requires { asleep self.old.state ≡ false }
         ensures { view self.new ≡ raised cause (view self.old) }

@@ -4,6 +4,7 @@ ghost use Rattle.registers.specs.States.{asleep};
 
 use registers::State;
 
+// No `impl Model`: its value would hold the register table, a function, which a model cannot have.
 #[derive(Drop)]
 pub struct PowerUnit {
     pub(crate) state: State,

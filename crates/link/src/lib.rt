@@ -1,6 +1,7 @@
 // Lines out of chunks of bytes, each answered by the engine.
 #![tactic(auto)]
 
+mod held;
 mod link;
 mod stream;
 

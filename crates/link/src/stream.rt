@@ -11,7 +11,7 @@ ghost use Rattle.link.specs.Stream.{Stands, GoesOn, said, taken, lines, all_line
 ghost use Rattle.link.specs.View.{held};
 
 use super::Link;
-use arrayvec::ArrayVec;
+use super::held::Held;
 use frames::{ANSWER_LENGTH, Answer};
 use machine::{Engine, Sockets};
 
@@ -42,7 +42,7 @@ impl<S: Sockets> Link<S> {
     {
         Link {
             engine,
-            held: ArrayVec::new(),
+            held: Held::new(),
         }
     }
 
@@ -139,18 +139,8 @@ impl<S: Sockets> Link<S> {
         if b == b'\n' {
             return Some(self.end_line());
         }
-        self.keep(b);
+        self.held.push(b);
         None
-    }
-
-    // Keeps one byte more of the line, if it is among the first thirteen.
-    fn keep(&mut self, b: u8)
-        ensures held { held self.new ≡ take 13 (held self.old ++ b ∷ []) }
-        ensures engine { self.new.engine ≡ self.old.engine }
-    {
-        if !self.held.is_full() {
-            self.held.push(b);
-        }
     }
 
     // Answers the line of which the first bytes are held.

@@ -6,12 +6,12 @@ use Rattle.link.proofs.link.Link.finish.Goals as goal
 
 pub returns-clause-machine : goal.returns-clause-machine
 returns-clause-machine g c =
-    let some = some_held c.args.self.now.held.items (search rules) in
+    let some = some_held c.args.self.now.held (search rules) in
     λ first bytes s. finish_machine first _ _ bytes _ (unfinished bytes) some s.machine_is s.held_is c.end_line.ensures.engine
 
 pub returns-clause-says : goal.returns-clause-says
 returns-clause-says g c =
-    let some = some_held c.args.self.now.held.items (search rules) in
+    let some = some_held c.args.self.now.held (search rules) in
     λ first bytes s. finish_says first _ bytes _ (unfinished bytes) c.end_line.result some s.machine_is s.held_is c.end_line.ensures.answer
 
 pub returns-clause-laws : goal.returns-clause-laws

@@ -1,29 +1,23 @@
 // The twelve digits of an answer, as either side spells them.
-use crate::line::show_byte;
+use crate::second::Verdict;
+use arrayvec::ArrayString;
 use frames::Answer;
-use std::fmt;
+use std::fmt::Write;
 
-#[derive(Clone, Copy, PartialEq)]
-pub struct Reply {
-    digits: [u8; 12],
+const DIGITS: usize = 12;
+
+pub type Reply = ArrayString<DIGITS>;
+
+// The engine's, without the end of the line. Its digits are text, so none is lost.
+pub fn spelled(answer: &Answer) -> Reply {
+    let [n1, n0, v3, v2, v1, v0, s1, s0, o1, o0, i1, i0, _] = answer.spell();
+    Reply::from_byte_string(&[n1, n0, v3, v2, v1, v0, s1, s0, o1, o0, i1, i0]).unwrap_or_default()
 }
 
-impl Reply {
-    pub fn of(answer: Answer) -> Reply {
-        let [n1, n0, v3, v2, v1, v0, s1, s0, o1, o0, i1, i0, _] = answer.spell();
-        Reply::spelled([n1, n0, v3, v2, v1, v0, s1, s0, o1, o0, i1, i0])
-    }
-
-    pub fn spelled(digits: [u8; 12]) -> Reply {
-        Reply { digits }
-    }
-}
-
-impl fmt::Display for Reply {
-    fn fmt<W: fmt::Write>(&self, f: &mut fmt::Formatter<W>) -> fmt::Result {
-        for digit in self.digits.iter() {
-            show_byte(*digit, f)?;
-        }
-        Ok(())
-    }
+// The second implementation's.
+pub fn told(verdict: &Verdict) -> Reply {
+    let mut reply = Reply::new();
+    // There is room, so this never fails.
+    let _ = write!(reply, "{verdict}");
+    reply
 }

@@ -3,7 +3,7 @@
 use crate::parts::{Bench, FIRST_SEGMENT, Part, Protection, Stock};
 use crate::pools;
 use crate::random::Random;
-use crate::second::stack::{Board, ChipKind};
+use crate::second::stack::Board;
 use board::assemble;
 use guard::Guard;
 use machine::Engine;
@@ -118,10 +118,10 @@ impl Setup {
 
 // The program's own board is put together as the program does it.
 pub fn build_program(mut bench: Bench<'_>) -> Program<'_> {
-    let even = bench.take_chip(ChipKind::Ram);
-    let odd = bench.take_chip(ChipKind::Ram);
-    let rom = bench.take_chip(ChipKind::Rom);
-    let card = bench.take_chip(ChipKind::BackedRam);
+    let even = bench.take_chip();
+    let odd = bench.take_chip();
+    let rom = bench.take_chip();
+    let card = bench.take_chip();
     assemble(even, odd, rom, card).into_engine()
 }
 

@@ -5,13 +5,14 @@ use crate::line::{Frame, Line};
 use crate::pools;
 use crate::pools::Awake;
 use crate::random::Random;
-use crate::script::{MOST_LINES, Script};
+use crate::script::Script;
 use crate::second::stack::{Board, Layer};
 use frames::Kind;
 use registers::{Register, State};
 use std::alloc::{AllocError, Global};
 use terms::PAGE_SIZE;
 
+// A match plays them: functions in a table would each need a ghost field that says that they can be called.
 #[derive(Clone, Copy)]
 enum Scene {
     Single,
@@ -61,8 +62,11 @@ const PAGES: usize = 64;
 // The ticks that a unit of a load stands for.
 const TICKS_PER_LOAD: usize = 32;
 
+const MOST_LINES: usize = 300;
+
 #[derive(Drop)]
 pub struct Composer {
+    heap: Global,
     random: Random,
     script: Script,
     // For each layer of the board that the list is for, the size of a chip.
@@ -72,17 +76,18 @@ pub struct Composer {
 impl Composer {
     pub fn new(heap: Global, seed: u64) -> Result<Composer, AllocError> {
         Ok(Composer {
+            heap,
             random: Random::new(seed),
-            script: Script::new(heap)?,
+            script: Script::new(heap, 0)?,
             layers: Vec::new(heap),
         })
     }
 
     // A new list of 200 to 300 lines for the board.
-    pub fn compose(&mut self, heap: Global, setup: &Setup) -> Result<&[Line], AllocError> {
-        self.layers = layers_of(heap, &setup.describe(heap)?)?;
+    pub fn compose(&mut self, setup: &Setup) -> Result<&[Line], AllocError> {
+        self.layers = layers_of(self.heap, &setup.describe(self.heap)?)?;
         let goal = 200 + self.random.below(101);
-        self.script.clear(goal);
+        self.script = Script::new(self.heap, goal)?;
         self.map();
         // Each scene has a line at least.
         for _ in 0..MOST_LINES {
@@ -129,7 +134,7 @@ impl Composer {
     }
 
     fn enter(&mut self, state: State) {
-        self.write(Register::State, u16::from(state.number()));
+        self.write(Register::State, state as u16);
     }
 
     fn single(&mut self) {
@@ -354,7 +359,7 @@ impl Composer {
     fn register_write(&mut self) -> Frame {
         let register = self.random.pick_weighted(&pools::REGISTERS);
         let value = match register {
-            Register::State => u16::from(self.random.pick(&pools::STATES).number()),
+            Register::State => self.random.pick(&pools::STATES) as u16,
             // At times any value, which need not tell anything.
             _ if self.random.one_in(8) => u16::from(self.random.byte()),
             Register::DozeLoad | Register::SleepLoad | Register::SuspendLoad => {

@@ -3,7 +3,8 @@ use crate::boards::{Built, DeepStack, GuardOverPair, Setup, Shape, build_program
 use crate::fault::Fault;
 use crate::line::Line;
 use crate::parts::{Bench, Stock};
-use crate::reply::{Reply, spelled, told};
+use crate::reply;
+use crate::reply::Reply;
 use crate::second::{Second, Verdict};
 use device::Device;
 use machine::Engine;
@@ -65,7 +66,7 @@ impl<F: Fault> Trial<'_, F> {
         let mut verdicts = Vec::with_capacity(heap, self.lines.len())?;
         for line in self.lines {
             let verdict = second.answer(line.bytes())?;
-            replies.push(told(&verdict))?;
+            replies.push(reply::of_verdict(&verdict))?;
             verdicts.push(verdict)?;
         }
         let bytes = second.bytes(heap)?;
@@ -97,7 +98,7 @@ impl<F: Fault> Trial<'_, F> {
         let mut replies = Vec::with_capacity(heap, self.lines.len())?;
         for line in self.lines {
             let answer = fault.answer(line.bytes(), |line| engine.frame(line));
-            replies.push(spelled(&answer))?;
+            replies.push(reply::of_answer(&answer))?;
         }
         Ok(replies)
     }
@@ -105,25 +106,24 @@ impl<F: Fault> Trial<'_, F> {
 
 impl Outcome {
     pub fn difference(&self) -> Option<Difference> {
-        let replies = first_mismatch(&self.engine.replies, &self.second.replies);
-        let bytes = first_mismatch(&self.engine.bytes, &self.second.bytes);
-        replies
+        let Outcome { engine, second, .. } = self;
+        first_mismatch(&engine.replies, &second.replies)
             .map(Difference::Answer)
-            .or(bytes.map(Difference::Byte))
+            .or_else(|| first_mismatch(&engine.bytes, &second.bytes).map(Difference::Byte))
     }
 }
 
 fn first_mismatch<T: Copy + PartialEq>(engine: &[T], second: &[T]) -> Option<Mismatch<T>> {
-    for (at, (one, other)) in engine.iter().zip(second).enumerate() {
-        if one != other {
-            return Some(Mismatch {
-                at,
-                engine: *one,
-                second: *other,
-            });
-        }
-    }
-    None
+    engine
+        .iter()
+        .zip(second)
+        .enumerate()
+        .find(|(_, (one, other))| one != other)
+        .map(|(at, (one, other))| Mismatch {
+            at,
+            engine: *one,
+            second: *other,
+        })
 }
 
 impl fmt::Display for Difference {

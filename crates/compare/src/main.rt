@@ -24,6 +24,7 @@ use composer::Composer;
 use contest::Trial;
 use fault::{CauseKept, Fault, LostByte, Sound, WrongState};
 use report::tell;
+use second::Verdict;
 use std::fmt;
 use tally::Tally;
 
@@ -48,24 +49,9 @@ fn run(rt: &HostRuntime) -> anyhow::Result<()> {
 
 // The engine as it is.
 fn agree(rt: &HostRuntime) -> anyhow::Result<()> {
-    let heap = rt.alloc();
-    let mut composer = Composer::new(heap, SEED)?;
-    let mut tally = Tally::new(heap)?;
-    for list in 0..LISTS {
-        let setup = Setup::drawn(list);
-        let lines = composer.compose(heap, &setup)?;
-        let trial = Trial {
-            setup: &setup,
-            list,
-            fault: Sound,
-            lines,
-        };
-        let outcome = trial.run(heap)?;
-        if let Some(difference) = outcome.difference() {
-            tell(rt, &trial, difference)?;
-            return Err(anyhow!("the engine and the second implementation differ"));
-        }
-        tally.add(outcome.verdicts.as_slice());
+    let mut tally = Tally::new(rt.alloc())?;
+    if find_difference(rt, Sound, LISTS, |verdicts| tally.add(verdicts))? {
+        return Err(anyhow!("the engine and the second implementation differ"));
     }
     tally.show(rt)?;
     if tally.is_complete() {
@@ -79,20 +65,38 @@ fn agree(rt: &HostRuntime) -> anyhow::Result<()> {
 fn notice<F: Fault + fmt::Display>(rt: &HostRuntime, fault: F) -> anyhow::Result<()> {
     println!(rt; "")?;
     println!(rt; "The engine with {fault}:")?;
+    if find_difference(rt, fault, PATIENCE, |_| {})? {
+        Ok(())
+    } else {
+        Err(anyhow!("the comparison did not notice"))
+    }
+}
+
+// Whether there is a difference on any of so many lists. The first is told; the lists before it are handed to `agreed`.
+fn find_difference<F: Fault, A: FnMut(&[Verdict])>(
+    rt: &HostRuntime,
+    fault: F,
+    lists: usize,
+    mut agreed: A,
+) -> anyhow::Result<bool>
+    requires { A.IsAlwaysCallable agreed }
+{
     let heap = rt.alloc();
     let mut composer = Composer::new(heap, SEED)?;
-    for list in 0..PATIENCE {
+    for list in 0..lists {
         let setup = Setup::drawn(list);
-        let lines = composer.compose(heap, &setup)?;
         let trial = Trial {
             setup: &setup,
             list,
             fault,
-            lines,
+            lines: composer.compose(&setup)?,
         };
-        if let Some(difference) = trial.run(heap)?.difference() {
-            return tell(rt, &trial, difference);
+        let outcome = trial.run(heap)?;
+        if let Some(difference) = outcome.difference() {
+            tell(rt, &trial, difference)?;
+            return Ok(true);
         }
+        agreed(outcome.verdicts.as_slice());
     }
-    Err(anyhow!("the comparison did not notice"))
+    Ok(false)
 }

@@ -57,10 +57,15 @@ impl<'a> Stock<'a> {
         }
     }
 
+    fn take_size(&mut self) -> usize {
+        let size = self.sizes.next().copied().unwrap_or(0);
+        self.start = self.start.saturating_add(size);
+        size
+    }
+
     fn take_chip(&mut self, kind: ChipKind) -> Chip {
         let start = self.start;
-        let size = self.sizes.next().copied().unwrap_or(0);
-        self.start = start.saturating_add(size);
+        let size = self.take_size();
         Chip { kind, start, size }
     }
 
@@ -82,8 +87,9 @@ pub struct Bench<'a> {
 }
 
 impl<'a> Bench<'a> {
-    pub fn take_chip(&mut self, kind: ChipKind) -> &'a mut [u8] {
-        let Chip { size, .. } = self.stock.take_chip(kind);
+    // The bytes of the next chip.
+    pub fn take_chip(&mut self) -> &'a mut [u8] {
+        let size = self.stock.take_size();
         self.bytes.split_off_mut(..size).unwrap_or_default()
     }
 }
@@ -97,7 +103,7 @@ pub trait Part<'a>: Device + Drop {
 
 impl<'a> Part<'a> for Ram<'a> {
     fn build(bench: &mut Bench<'a>) -> Ram<'a> {
-        Ram::new(bench.take_chip(ChipKind::Ram))
+        Ram::new(bench.take_chip())
     }
 
     fn describe(_heap: Global, stock: &mut Stock) -> Result<Layer, AllocError> {
@@ -107,7 +113,7 @@ impl<'a> Part<'a> for Ram<'a> {
 
 impl<'a> Part<'a> for BackedRam<'a> {
     fn build(bench: &mut Bench<'a>) -> BackedRam<'a> {
-        BackedRam::new(bench.take_chip(ChipKind::BackedRam))
+        BackedRam::new(bench.take_chip())
     }
 
     fn describe(_heap: Global, stock: &mut Stock) -> Result<Layer, AllocError> {
@@ -117,7 +123,7 @@ impl<'a> Part<'a> for BackedRam<'a> {
 
 impl<'a> Part<'a> for Rom<'a> {
     fn build(bench: &mut Bench<'a>) -> Rom<'a> {
-        Rom::new(bench.take_chip(ChipKind::Rom))
+        Rom::new(bench.take_chip())
     }
 
     fn describe(_heap: Global, stock: &mut Stock) -> Result<Layer, AllocError> {

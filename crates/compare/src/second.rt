@@ -6,14 +6,16 @@ mod judging;
 mod past;
 mod refusal;
 pub mod stack;
+mod words;
 
 pub use crate::second::effect::Waker;
 use crate::second::frame::Frame;
 pub use crate::second::frame::Kind;
+pub use crate::second::past::Entry;
 use crate::second::past::{Deed, Past};
-pub use crate::second::past::{Cause, Entry, State};
 pub use crate::second::refusal::Refusal;
 use crate::second::stack::{Board, SOCKETS};
+pub use crate::second::words::{Cause, State};
 use std::alloc::{AllocError, Global};
 use std::fmt;
 
@@ -53,10 +55,7 @@ impl<'a> Second<'a> {
 
     pub fn answer(&mut self, line: &[u8]) -> Result<Verdict, AllocError> {
         let frame = Frame::read(line);
-        let taken = match frame {
-            Ok(frame) => self.judge(frame),
-            Err(refusal) => Err(refusal),
-        };
+        let taken = frame.and_then(|frame| self.judge(frame));
         let deed = match (frame, taken) {
             (_, Ok(taken)) => taken.deed,
             // What these two refusals do all the same.

@@ -1,5 +1,6 @@
 // What a line does to the state, the outputs and the causes, told from the lines before it.
-use crate::second::past::{Cause, Deed, Input, Past, Shown, State};
+use crate::second::past::{Deed, Past, Shown};
+use crate::second::words::{Cause, Input, State};
 
 // What ended Suspend or Off.
 #[derive(Clone, Copy, PartialEq, Eq)]

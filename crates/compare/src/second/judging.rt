@@ -1,9 +1,10 @@
 // Whether a line is taken, what it does and what it answers, told from the lines before it.
 use crate::second::Second;
 use crate::second::frame::{Frame, Kind};
-use crate::second::past::{Deed, Input, Register, State};
+use crate::second::past::Deed;
 use crate::second::refusal::Refusal;
 use crate::second::stack::{LOST, Socket, Spot};
+use crate::second::words::{Input, Register, State};
 
 // What a taken line does and answers.
 #[derive(Clone, Copy)]
@@ -174,14 +175,15 @@ impl Second<'_> {
 
     // What was last written there or lost there, else the first byte.
     fn byte_at(&self, socket: Socket, spot: Spot) -> u8 {
-        let set = self.past.iter().rev().find_map(|entry| match entry.deed {
-            Deed::CpuWrite { index, byte } if index == spot.index => Some(byte),
-            _ if spot.volatile && entry.cuts_power(socket.power_line()) => Some(LOST),
-            _ => None,
-        });
-        match set {
-            Some(byte) => byte,
-            None => self.first.get(spot.index).copied().unwrap_or(LOST),
-        }
+        self.past
+            .iter()
+            .rev()
+            .find_map(|entry| match entry.deed {
+                Deed::CpuWrite { index, byte } if index == spot.index => Some(byte),
+                _ if spot.volatile && entry.cuts_power(socket.power_line()) => Some(LOST),
+                _ => None,
+            })
+            .or(self.first.get(spot.index).copied())
+            .unwrap_or(LOST)
     }
 }

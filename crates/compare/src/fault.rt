@@ -1,4 +1,5 @@
 // The engine as it is compared: as it is, or with a fault put in to see that the comparison notices it.
+use crate::line::FRAME_LENGTH;
 use frames::Answer;
 use registers::State;
 use std::fmt;
@@ -100,18 +101,15 @@ impl fmt::Display for CauseKept {
 }
 
 // A CPU write with another last digit. Whether it is taken does not depend on that digit.
-fn with_another_value(line: &[u8]) -> Option<[u8; 12]> {
-    match line {
-        [b'0', b'5', a5, a4, a3, a2, a1, a0, v3, v2, v1, v0] => {
-            let other = match v0 {
-                b'1'..=b'9' | b'A'..=b'F' => b'0',
-                b'0' => b'1',
-                _ => return None,
-            };
-            Some([
-                b'0', b'5', *a5, *a4, *a3, *a2, *a1, *a0, *v3, *v2, *v1, other,
-            ])
-        }
-        _ => None,
-    }
+fn with_another_value(line: &[u8]) -> Option<[u8; FRAME_LENGTH]> {
+    let mut changed = <[u8; FRAME_LENGTH]>::try_from(line).ok()?;
+    let [b'0', b'5', .., last] = &mut changed else {
+        return None;
+    };
+    *last = match *last {
+        b'1'..=b'9' | b'A'..=b'F' => b'0',
+        b'0' => b'1',
+        _ => return None,
+    };
+    Some(changed)
 }

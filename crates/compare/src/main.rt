@@ -53,7 +53,7 @@ fn agree(rt: &HostRuntime) -> anyhow::Result<()> {
     if find_difference(rt, Sound, LISTS, |verdicts| tally.add(verdicts))? {
         return Err(anyhow!("the engine and the second implementation differ"));
     }
-    tally.show(rt)?;
+    println!(rt; "{tally}")?;
     if tally.is_complete() {
         Ok(())
     } else {

@@ -10,8 +10,11 @@ pub type Reply = ArrayString<DIGITS>;
 
 // The engine's, without the end of the line. Its digits are text, so none is lost.
 pub fn of_answer(answer: &Answer) -> Reply {
-    let [n1, n0, v3, v2, v1, v0, s1, s0, o1, o0, i1, i0, _] = answer.spell();
-    Reply::from_byte_string(&[n1, n0, v3, v2, v1, v0, s1, s0, o1, o0, i1, i0]).unwrap_or_default()
+    let spelled = answer.spell();
+    spelled
+        .first_chunk::<DIGITS>()
+        .and_then(|digits| Reply::from_byte_string(digits).ok())
+        .unwrap_or_default()
 }
 
 // The second implementation's.

@@ -2,7 +2,7 @@
 use crate::second::stack::PowerLine;
 use crate::second::{Cause, Kind, Refusal, State, Verdict, Waker};
 use std::alloc::{AllocError, Global};
-use std::io;
+use std::fmt;
 
 #[derive(Drop)]
 pub struct Tally {
@@ -140,16 +140,22 @@ impl Tally {
             && self.wakers.is_complete()
             && self.losses.is_complete()
     }
+}
 
-    pub fn show(&self, rt: &HostRuntime) -> io::Result<()> {
-        self.kinds.show(rt)?;
-        self.numbers.show(rt)?;
-        self.states.show(rt)?;
-        self.causes.show(rt)?;
-        self.wakers.show(rt)?;
-        self.losses.show(rt)?;
-        let Tally { lists, lines, .. } = self;
-        println!(rt; "{lists} lists, {lines} lines agreed")
+impl fmt::Display for Tally {
+    fn fmt<W: fmt::Write>(&self, f: &mut fmt::Formatter<W>) -> fmt::Result {
+        let Tally {
+            lists,
+            lines,
+            kinds,
+            numbers,
+            states,
+            causes,
+            wakers,
+            losses,
+        } = self;
+        write!(f, "{kinds}{numbers}{states}{causes}{wakers}{losses}")?;
+        write!(f, "{lists} lists, {lines} lines agreed")
     }
 }
 
@@ -184,12 +190,14 @@ impl<T: Copy> Table<T> {
     fn is_complete(&self) -> bool {
         self.rows.iter().all(|row| row.count > 0)
     }
+}
 
-    fn show(&self, rt: &HostRuntime) -> io::Result<()> {
-        println!(rt; "{}:", self.title)?;
+impl<T> fmt::Display for Table<T> {
+    fn fmt<W: fmt::Write>(&self, f: &mut fmt::Formatter<W>) -> fmt::Result {
+        writeln!(f, "{}:", self.title)?;
         for Row { name, count, .. } in self.rows.iter() {
             let mark = if *count == 0 { "  never came up" } else { "" };
-            println!(rt; "  {name:<26}{count:>8}{mark}")?;
+            writeln!(f, "  {name:<26}{count:>8}{mark}")?;
         }
         Ok(())
     }

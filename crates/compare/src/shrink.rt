@@ -18,7 +18,7 @@ pub fn shrink<F: Fault>(heap: Global, trial: &Trial<F>) -> Result<Vec<Line>, All
         }
         kept = leave_out(heap, trial, kept.as_slice(), run)?;
     }
-    // To leave out one line can make another one needless.
+    // To leave out one line can make another one needless. Each turn but the last leaves out one at least.
     for _ in 0..count {
         let before = kept.len();
         kept = leave_out(heap, trial, kept.as_slice(), 1)?;

@@ -250,6 +250,7 @@ impl<'a> Past<'a> {
             .take_while(|step| !step.entry.before.state.is_awake())
             .filter(|step| step.is_rise(Input::Ring))
             .count();
+        // This rise counts as well.
         rises.saturating_add(1) == usize::from(count)
     }
 

@@ -1,16 +1,18 @@
 // Writes lists of lines: scenes that have a sense of their own, one after the other.
+use crate::boards::Setup;
 use crate::damage::{distort, spoil};
 use crate::line::{Frame, Line};
 use crate::pools;
 use crate::pools::Awake;
 use crate::random::Random;
-use crate::script::{MOST_LINES, Script};
-use crate::second::stack::{Board, LAYERS, Layer};
+use crate::script::Script;
+use crate::second::stack::{Board, Layer};
 use frames::Kind;
-use registers::Register;
+use registers::{Register, State};
 use std::alloc::{AllocError, Global};
 use terms::PAGE_SIZE;
 
+// A match plays them: functions in a table would each need a ghost field that says that they can be called.
 #[derive(Clone, Copy)]
 enum Scene {
     Single,
@@ -51,35 +53,41 @@ const SCENES: [(Scene, usize); 16] = [
     (Scene::Reset, 1),
 ];
 
+// Room for the layers of any board.
+const LAYERS: usize = 16;
+
 // How many pages CPU addresses have.
 const PAGES: usize = 64;
 
 // The ticks that a unit of a load stands for.
 const TICKS_PER_LOAD: usize = 32;
 
+const MOST_LINES: usize = 300;
+
 #[derive(Drop)]
 pub struct Composer {
+    heap: Global,
     random: Random,
     script: Script,
-    // What stands on the board that the list is for.
-    layers: [Layer; LAYERS],
+    // For each layer of the board that the list is for, the size of a chip.
+    layers: Vec<Option<usize>>,
 }
 
 impl Composer {
     pub fn new(heap: Global, seed: u64) -> Result<Composer, AllocError> {
         Ok(Composer {
+            heap,
             random: Random::new(seed),
-            script: Script::new(heap)?,
-            layers: [Layer::Empty; LAYERS],
+            script: Script::new(heap, 0)?,
+            layers: Vec::new(heap),
         })
     }
 
     // A new list of 200 to 300 lines for the board.
-    pub fn compose(&mut self, board: Board) {
-        let layers = board.layers;
-        self.layers = layers;
+    pub fn compose(&mut self, setup: &Setup) -> Result<&[Line], AllocError> {
+        self.layers = layers_of(self.heap, &setup.describe(self.heap)?)?;
         let goal = 200 + self.random.below(101);
-        self.script.clear(goal);
+        self.script = Script::new(self.heap, goal)?;
         self.map();
         // Each scene has a line at least.
         for _ in 0..MOST_LINES {
@@ -89,10 +97,7 @@ impl Composer {
             let scene = self.random.pick_weighted(&SCENES);
             self.play(scene);
         }
-    }
-
-    pub fn lines(&self) -> &[Line] {
-        self.script.lines()
+        Ok(self.script.lines())
     }
 
     fn play(&mut self, scene: Scene) {
@@ -117,7 +122,7 @@ impl Composer {
     }
 
     fn add(&mut self, kind: Kind, a: u32, v: u16) {
-        self.script.add(Line::of(Frame::new(kind, a, v)));
+        self.script.add(Line::from(Frame::new(kind, a, v)));
     }
 
     fn write(&mut self, register: Register, value: u16) {
@@ -128,9 +133,13 @@ impl Composer {
         self.add(Kind::RegisterRead, register as u32, 0);
     }
 
+    fn enter(&mut self, state: State) {
+        self.write(Register::State, state as u16);
+    }
+
     fn single(&mut self) {
         let frame = self.any_frame();
-        self.script.add(Line::of(frame));
+        self.script.add(Line::from(frame));
     }
 
     fn map(&mut self) {
@@ -168,7 +177,7 @@ impl Composer {
     fn power_lines(&mut self) {
         let Awake { state, outputs, .. } = self.random.pick(&pools::AWAKE);
         let lines = self.random.pick(&pools::OUTPUTS);
-        self.write(Register::State, state);
+        self.enter(state);
         self.write(outputs, lines);
         self.access();
         if !self.random.one_in(4) {
@@ -198,7 +207,7 @@ impl Composer {
         let late = self.random.below(3);
         self.add(Kind::Ac, 0, ac);
         self.write(Register::Mask, mask);
-        self.write(Register::State, state);
+        self.enter(state);
         self.write(load, units as u16);
         self.ticks(early);
         self.meddle();
@@ -221,7 +230,7 @@ impl Composer {
             }
             3 => {
                 let Awake { state, .. } = self.random.pick(&pools::AWAKE);
-                self.write(Register::State, state);
+                self.enter(state);
             }
             _ => self.single(),
         }
@@ -281,7 +290,7 @@ impl Composer {
 
     fn fall_asleep(&mut self) {
         let state = self.random.pick(&pools::SLEEPS);
-        self.write(Register::State, state);
+        self.enter(state);
     }
 
     fn wake(&mut self) {
@@ -309,11 +318,12 @@ impl Composer {
             return;
         }
         let frame = self.any_frame();
-        self.script.add(Line::of(distort(&mut self.random, frame)));
+        self.script
+            .add(Line::from(distort(&mut self.random, frame)));
     }
 
     fn damaged(&mut self) {
-        let mut line = Line::of(self.any_frame());
+        let mut line = Line::from(self.any_frame());
         spoil(&mut self.random, &mut line);
         self.script.add(line);
     }
@@ -349,7 +359,7 @@ impl Composer {
     fn register_write(&mut self) -> Frame {
         let register = self.random.pick_weighted(&pools::REGISTERS);
         let value = match register {
-            Register::State => self.random.pick(&pools::STATES),
+            Register::State => self.random.pick(&pools::STATES) as u16,
             // At times any value, which need not tell anything.
             _ if self.random.one_in(8) => u16::from(self.random.byte()),
             Register::DozeLoad | Register::SleepLoad | Register::SuspendLoad => {
@@ -399,10 +409,10 @@ impl Composer {
         if self.random.one_in(2) {
             return self.random.pick(&pools::OFFSETS);
         }
-        match self.random.pick(&self.layers) {
-            Layer::Ram { size, .. } | Layer::BackedRam { size, .. } | Layer::Rom { size, .. } => {
+        match self.layers.get(self.random.below(LAYERS)) {
+            Some(Some(size)) => {
                 let end = if self.random.one_in(2) {
-                    size
+                    *size
                 } else {
                     size.saturating_mul(2)
                 };
@@ -412,4 +422,32 @@ impl Composer {
             _ => self.random.pick(&pools::OFFSETS),
         }
     }
+}
+
+// The layers of a board from socket to socket, each after those below it.
+fn layers_of(heap: Global, board: &Board) -> Result<Vec<Option<usize>>, AllocError> {
+    let mut layers = Vec::with_capacity(heap, LAYERS)?;
+    list_layers(&mut layers, &board.ram)?;
+    list_layers(&mut layers, &board.rom)?;
+    list_layers(&mut layers, &board.card_a)?;
+    list_layers(&mut layers, &board.card_b)?;
+    Ok(layers)
+}
+
+fn list_layers(layers: &mut Vec<Option<usize>>, layer: &Layer) -> Result<(), AllocError> {
+    let size = match layer {
+        Layer::Chip(chip) => Some(chip.size),
+        Layer::Empty => None,
+        Layer::Guard { below, .. } => {
+            list_layers(layers, below)?;
+            None
+        }
+        Layer::Pair { even, odd } => {
+            list_layers(layers, even)?;
+            list_layers(layers, odd)?;
+            None
+        }
+    };
+    layers.push(size)?;
+    Ok(())
 }

@@ -1,154 +1,153 @@
 // Both implementations on one list of lines, each from new, and where they differ first.
-use crate::boards::{Described, Setup};
+use crate::boards::{Built, DeepStack, GuardOverPair, Setup, Shape, build_program};
+use crate::fault::Fault;
 use crate::line::Line;
+use crate::parts::{Bench, Stock};
 use crate::reply::Reply;
 use crate::second::{Second, Verdict};
-use crate::subject::Breakage;
+use machine::{Engine, Sockets};
 use std::alloc::{AllocError, Global};
+use std::fmt;
 
-// What a list is run on.
+// A list of lines, and what it is run on.
 #[derive(Clone, Copy)]
-pub struct Trial {
-    pub setup: Setup,
+pub struct Trial<'a, F> {
+    pub setup: &'a Setup,
     // The number of the list. The first bytes of the chips follow from it.
     pub list: usize,
-    pub breakage: Breakage,
+    pub fault: F,
+    pub lines: &'a [Line],
+}
+
+// What one implementation made of a list.
+#[derive(Drop)]
+pub struct Side {
+    pub replies: Vec<Reply>,
+    // The chips' bytes at the end.
+    bytes: Vec<u8>,
+}
+
+#[derive(Drop)]
+pub struct Outcome {
+    pub engine: Side,
+    pub second: Side,
+    // What the second implementation made of each line.
+    pub verdicts: Vec<Verdict>,
+}
+
+// Two values that should be one, and where they are.
+#[derive(Clone, Copy)]
+pub struct Mismatch<T> {
+    at: usize,
+    engine: T,
+    second: T,
 }
 
 #[derive(Clone, Copy)]
 pub enum Difference {
-    Answer {
-        line: usize,
-        engine: Reply,
-        second: Reply,
-    },
+    Answer(Mismatch<Reply>),
     // A byte by its number in the flat list of the chips' bytes.
-    Byte {
-        number: usize,
-        engine: u8,
-        second: u8,
-    },
+    Byte(Mismatch<u8>),
 }
 
-// The second implementation, and what either side made of the last list.
-#[derive(Drop)]
-pub struct Contest {
-    second: Second,
-    engine_bytes: Vec<u8>,
-    second_bytes: Vec<u8>,
-    replies: Vec<Reply>,
-    verdicts: Vec<Verdict>,
-}
+impl<F: Fault> Trial<'_, F> {
+    pub fn run(&self, heap: Global) -> Result<Outcome, AllocError> {
+        let board = self.setup.describe(heap)?;
+        let first = first_bytes(heap, board.bytes, self.list)?;
 
-impl Contest {
-    pub fn new(heap: Global) -> Result<Contest, AllocError> {
-        Ok(Contest {
-            second: Second::new(heap)?,
-            engine_bytes: Vec::new(heap),
-            second_bytes: Vec::new(heap),
-            replies: Vec::new(heap),
-            verdicts: Vec::new(heap),
+        let mut bytes = first.clone()?;
+        let replies = self.engine_replies(heap, bytes.as_mut_slice())?;
+        let engine = Side { replies, bytes };
+
+        let mut second = Second::new(heap, &board, first.as_slice());
+        let mut replies = Vec::with_capacity(heap, self.lines.len())?;
+        let mut verdicts = Vec::with_capacity(heap, self.lines.len())?;
+        for line in self.lines {
+            let verdict = second.answer(line.bytes())?;
+            replies.push(Reply::of_verdict(&verdict))?;
+            verdicts.push(verdict)?;
+        }
+        let bytes = second.bytes(heap)?;
+        let second = Side { replies, bytes };
+        Ok(Outcome {
+            engine,
+            second,
+            verdicts,
         })
     }
 
-    pub fn compare(
-        &mut self,
-        trial: Trial,
-        lines: &[Line],
-    ) -> Result<Option<Difference>, AllocError> {
-        let Described { board, bytes } = trial.setup.describe();
-        self.engine_bytes.resize(bytes, 0)?;
-        self.second_bytes.resize(bytes, 0)?;
-        fill(self.engine_bytes.as_mut_slice(), trial.list);
-        self.second.begin(board, self.engine_bytes.as_slice())?;
-        self.run_engine(trial, lines)?;
-        self.run_second(lines)?;
-        Ok(self.first_difference())
-    }
-
-    fn run_engine(&mut self, trial: Trial, lines: &[Line]) -> Result<(), AllocError> {
-        self.replies.clear();
-        let bytes = self.engine_bytes.as_mut_slice();
-        trial
-            .setup
-            .run(bytes, trial.breakage, lines, &mut self.replies)
-    }
-
-    fn run_second(&mut self, lines: &[Line]) -> Result<(), AllocError> {
-        self.verdicts.clear();
-        for line in lines {
-            let verdict = self.second.answer(line.bytes())?;
-            self.verdicts.push(verdict)?;
-        }
-        self.second.bytes(self.second_bytes.as_mut_slice());
-        Ok(())
-    }
-
-    fn first_difference(&self) -> Option<Difference> {
-        match self.first_answer() {
-            Some(difference) => Some(difference),
-            None => self.first_byte(),
+    fn engine_replies(&self, heap: Global, bytes: &mut [u8]) -> Result<Vec<Reply>, AllocError> {
+        let stock = Stock::of(self.setup);
+        let bench = Bench { stock, bytes };
+        match self.setup.shape {
+            Shape::Program => self.replies_of(heap, build_program(bench)),
+            Shape::GuardOverPair => self.replies_of(heap, GuardOverPair::build(bench)),
+            Shape::DeepStack => self.replies_of(heap, DeepStack::build(bench)),
         }
     }
 
-    fn first_answer(&self) -> Option<Difference> {
-        for line in 0..self.replies.len() {
-            let Some(engine) = self.reply(line) else {
-                return None;
-            };
-            let Some(second) = self.second_reply(line) else {
-                return None;
-            };
-            if engine != second {
-                return Some(Difference::Answer {
-                    line,
-                    engine,
-                    second,
-                });
-            }
+    // The devices are any here, so that the proof sees nothing of them.
+    fn replies_of<S: Sockets + Drop>(
+        &self,
+        heap: Global,
+        mut engine: Engine<S>,
+    ) -> Result<Vec<Reply>, AllocError> {
+        let mut fault = self.fault;
+        let mut replies = Vec::with_capacity(heap, self.lines.len())?;
+        for line in self.lines {
+            let answer = fault.answer(line.bytes(), |line| engine.frame(line));
+            replies.push(Reply::of_answer(&answer))?;
         }
-        None
-    }
-
-    fn first_byte(&self) -> Option<Difference> {
-        let bytes = self.engine_bytes.as_slice();
-        let others = self.second_bytes.as_slice();
-        for number in 0..bytes.len().min(others.len()) {
-            let engine = bytes[number];
-            let second = others[number];
-            if engine != second {
-                return Some(Difference::Byte {
-                    number,
-                    engine,
-                    second,
-                });
-            }
-        }
-        None
-    }
-
-    // The engine's answer to a line of the last list.
-    pub fn reply(&self, line: usize) -> Option<Reply> {
-        self.replies.as_slice().get(line).copied()
-    }
-
-    // The second implementation's answer to it.
-    pub fn second_reply(&self, line: usize) -> Option<Reply> {
-        match self.verdicts.as_slice().get(line) {
-            Some(verdict) => Some(Reply::spelled(verdict.digits)),
-            None => None,
-        }
-    }
-
-    // What the second implementation made of each line of the last list.
-    pub fn verdicts(&self) -> &[Verdict] {
-        self.verdicts.as_slice()
+        Ok(replies)
     }
 }
 
-// The first bytes of the chips: different from place to place, from page to page and from seed to seed.
-fn fill(bytes: &mut [u8], seed: usize) {
-    for p in 0..bytes.len() {
-        bytes[p] = (p.wrapping_add(p / 251).wrapping_add(seed) % 256) as u8;
+impl Outcome {
+    pub fn difference(&self) -> Option<Difference> {
+        let Outcome { engine, second, .. } = self;
+        first_mismatch(&engine.replies, &second.replies)
+            .map(Difference::Answer)
+            .or_else(|| first_mismatch(&engine.bytes, &second.bytes).map(Difference::Byte))
     }
+}
+
+fn first_mismatch<T: Copy + PartialEq>(engine: &[T], second: &[T]) -> Option<Mismatch<T>> {
+    engine
+        .iter()
+        .zip(second)
+        .enumerate()
+        .find(|(_, (one, other))| one != other)
+        .map(|(at, (one, other))| Mismatch {
+            at,
+            engine: *one,
+            second: *other,
+        })
+}
+
+impl fmt::Display for Difference {
+    fn fmt<W: fmt::Write>(&self, f: &mut fmt::Formatter<W>) -> fmt::Result {
+        match self {
+            Difference::Answer(Mismatch { at, engine, second }) => {
+                // Lines are told from 1 on.
+                let line = at.saturating_add(1);
+                write!(
+                    f,
+                    "line {line}: the engine answers {engine}, the second {second}"
+                )
+            }
+            Difference::Byte(Mismatch { at, engine, second }) => {
+                write!(
+                    f,
+                    "byte {at} of the chips: the engine has {engine:02X}, the second {second:02X}"
+                )
+            }
+        }
+    }
+}
+
+// The first bytes of the chips: different from place to place, from page to page and from list to list.
+fn first_bytes(heap: Global, count: usize, list: usize) -> Result<Vec<u8>, AllocError> {
+    (0..count)
+        .map(|place| (place.wrapping_add(place / 251).wrapping_add(list) % 256) as u8)
+        .collect(heap)
 }

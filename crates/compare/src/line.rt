@@ -3,11 +3,12 @@ ghost use Rattle.std.specs.Prelude.{◌≤◌};
 
 use frames::Kind;
 use std::fmt;
+use std::fmt::Write;
 
 // The digits of a frame: two of kind, six of a, four of v.
 pub const FRAME_LENGTH: usize = 12;
 
-// The fields of a frame. They may be too large for their kind.
+// The fields of a frame, as plain numbers: they may be too large for their kind, and the kind may be none that there is.
 #[derive(Clone, Copy)]
 pub struct Frame {
     pub kind: u8,
@@ -23,37 +24,27 @@ impl Frame {
             v,
         }
     }
-
-    // Bits of a beyond 24 have no digit.
-    fn spell(self) -> [u8; FRAME_LENGTH] {
-        let [_, a2, a1, a0] = self.a.to_be_bytes();
-        let [v1, v0] = self.v.to_be_bytes();
-        let [k1, k0] = two_digits(self.kind);
-        let [a5, a4] = two_digits(a2);
-        let [a3, a2] = two_digits(a1);
-        let [a1, a0] = two_digits(a0);
-        let [v3, v2] = two_digits(v1);
-        let [v1, v0] = two_digits(v0);
-        [k1, k0, a5, a4, a3, a2, a1, a0, v3, v2, v1, v0]
-    }
-}
-
-fn two_digits(n: u8) -> [u8; 2] {
-    [digit(n / 0x10), digit(n % 0x10)]
-}
-
-fn digit(n: u8) -> u8 {
-    b"0123456789ABCDEF"[n as usize % 0x10]
 }
 
 pub const LONGEST: usize = 40;
 
 // A line, without the 0Ah that ends it.
+// An array with a length, and no `Vec`: a line is copied into many lists, and a copy of an array cannot fail.
 #[derive(Clone, Copy)]
 pub struct Line {
     bytes: [u8; LONGEST],
     length: usize,
     ghost fits: { length ≤ 40 },
+}
+
+impl From<Frame> for Line {
+    fn from(frame: Frame) -> Line {
+        let mut line = Line::empty();
+        let Frame { kind, a, v } = frame;
+        // There is room, so nothing is left out.
+        let _ = write!(line, "{kind:02X}{a:06X}{v:04X}");
+        line
+    }
 }
 
 impl Line {
@@ -64,18 +55,11 @@ impl Line {
         }
     }
 
-    pub fn of(frame: Frame) -> Line {
-        let mut line = Line::empty();
-        for digit in frame.spell() {
-            line.push(digit);
-        }
-        line
-    }
-
     pub fn bytes(&self) -> &[u8] {
         &self.bytes[0..self.length]
     }
 
+    // A byte beyond the longest line is left out.
     pub fn push(&mut self, byte: u8) {
         if self.length < LONGEST {
             self.bytes[self.length] = byte;
@@ -94,25 +78,28 @@ impl Line {
     }
 }
 
-// Digits and letters as they are, any other byte as its two digits in angle brackets.
-impl fmt::Display for Line {
-    fn fmt<W: fmt::Write>(&self, f: &mut fmt::Formatter<W>) -> fmt::Result {
-        if self.length == 0 {
-            return write!(f, "(empty)");
-        }
-        for byte in self.bytes() {
-            show_byte(*byte, f)?;
+impl Write for Line {
+    fn write_str(&mut self, text: &str) -> fmt::Result {
+        for byte in text.as_bytes() {
+            self.push(*byte);
         }
         Ok(())
     }
 }
 
-pub fn show_byte<W: fmt::Write>(byte: u8, f: &mut fmt::Formatter<W>) -> fmt::Result {
-    match byte {
-        b'0'..=b'9' | b'A'..=b'Z' | b'a'..=b'z' => {
-            let shown = char::from(byte);
-            write!(f, "{shown}")
+// Digits and letters as they are, any other byte as its two digits in angle brackets.
+impl fmt::Display for Line {
+    fn fmt<W: fmt::Write>(&self, f: &mut fmt::Formatter<W>) -> fmt::Result {
+        if self.bytes().is_empty() {
+            return f.write_str("(empty)");
         }
-        _ => write!(f, "<{byte:02X}>"),
+        for byte in self.bytes() {
+            if byte.is_ascii_alphanumeric() {
+                write!(f, "{}", char::from(*byte))?;
+            } else {
+                write!(f, "<{byte:02X}>")?;
+            }
+        }
+        Ok(())
     }
 }

@@ -6,8 +6,9 @@ mod boards;
 mod composer;
 mod contest;
 mod damage;
-mod layers;
+mod fault;
 mod line;
+mod parts;
 mod pools;
 mod random;
 mod reply;
@@ -15,15 +16,16 @@ mod report;
 mod script;
 mod second;
 mod shrink;
-mod subject;
 mod tally;
 
 use anyhow::anyhow;
 use boards::Setup;
 use composer::Composer;
-use contest::{Contest, Trial};
+use contest::Trial;
+use fault::{CauseKept, Fault, LostByte, Sound, WrongState};
 use report::tell;
-use subject::Breakage;
+use second::Verdict;
+use std::fmt;
 use tally::Tally;
 
 // The same seed writes the same lists.
@@ -31,47 +33,27 @@ const SEED: u64 = 1;
 
 const LISTS: usize = 4_000;
 
-// How many lists a breakage has to go unnoticed.
+// How many lists a fault has to go unnoticed.
 const PATIENCE: usize = 200;
-
-const BREAKAGES: [(Breakage, &str); 3] = [
-    (Breakage::WrongState, "a wrong state in an answer"),
-    (Breakage::LostByte, "another byte stored"),
-    (Breakage::CauseKept, "causes that a read does not clear"),
-];
 
 fn main(rt: HostRuntime) -> anyhow::Result<()> {
     run(&rt)
 }
 
 fn run(rt: &HostRuntime) -> anyhow::Result<()> {
-    let mut contest = Contest::new(rt.alloc())?;
-    agree(rt, &mut contest)?;
-    for (breakage, name) in BREAKAGES {
-        println!(rt; "")?;
-        println!(rt; "The engine with {name}:")?;
-        notice(rt, &mut contest, breakage)?;
-    }
-    Ok(())
+    agree(rt)?;
+    notice(rt, WrongState::default())?;
+    notice(rt, LostByte::default())?;
+    notice(rt, CauseKept::default())
 }
 
 // The engine as it is.
-fn agree(rt: &HostRuntime, contest: &mut Contest) -> anyhow::Result<()> {
-    let mut composer = Composer::new(rt.alloc(), SEED)?;
-    let mut tally = Tally::new();
-    for list in 0..LISTS {
-        let trial = trial(list, Breakage::None);
-        composer.compose(trial.setup.describe().board);
-        let lines = composer.lines();
-        match contest.compare(trial, lines)? {
-            None => tally.add(contest.verdicts()),
-            Some(difference) => {
-                tell(rt, contest, trial, difference, lines)?;
-                return Err(anyhow!("the engine and the second implementation differ"));
-            }
-        }
+fn agree(rt: &HostRuntime) -> anyhow::Result<()> {
+    let mut tally = Tally::new(rt.alloc())?;
+    if find_difference(rt, Sound, LISTS, |verdicts| tally.add(verdicts))? {
+        return Err(anyhow!("the engine and the second implementation differ"));
     }
-    tally.show(rt)?;
+    println!(rt; "{tally}")?;
     if tally.is_complete() {
         Ok(())
     } else {
@@ -79,24 +61,42 @@ fn agree(rt: &HostRuntime, contest: &mut Contest) -> anyhow::Result<()> {
     }
 }
 
-// The engine broken: on some list it must differ.
-fn notice(rt: &HostRuntime, contest: &mut Contest, breakage: Breakage) -> anyhow::Result<()> {
-    let mut composer = Composer::new(rt.alloc(), SEED)?;
-    for list in 0..PATIENCE {
-        let trial = trial(list, breakage);
-        composer.compose(trial.setup.describe().board);
-        let lines = composer.lines();
-        if let Some(difference) = contest.compare(trial, lines)? {
-            return tell(rt, contest, trial, difference, lines);
-        }
+// The engine with a fault: on some list it must differ.
+fn notice<F: Fault + fmt::Display>(rt: &HostRuntime, fault: F) -> anyhow::Result<()> {
+    println!(rt; "")?;
+    println!(rt; "The engine with {fault}:")?;
+    if find_difference(rt, fault, PATIENCE, |_| {})? {
+        Ok(())
+    } else {
+        Err(anyhow!("the comparison did not notice"))
     }
-    Err(anyhow!("the comparison did not notice"))
 }
 
-fn trial(list: usize, breakage: Breakage) -> Trial {
-    Trial {
-        setup: Setup::drawn(list),
-        list,
-        breakage,
+// Whether there is a difference on any of so many lists. The first is told; the lists before it are handed to `agreed`.
+fn find_difference<F: Fault, A: FnMut(&[Verdict])>(
+    rt: &HostRuntime,
+    fault: F,
+    lists: usize,
+    mut agreed: A,
+) -> anyhow::Result<bool>
+    requires { A.IsAlwaysCallable agreed }
+{
+    let heap = rt.alloc();
+    let mut composer = Composer::new(heap, SEED)?;
+    for list in 0..lists {
+        let setup = Setup::drawn(list);
+        let trial = Trial {
+            setup: &setup,
+            list,
+            fault,
+            lines: composer.compose(&setup)?,
+        };
+        let outcome = trial.run(heap)?;
+        if let Some(difference) = outcome.difference() {
+            tell(rt, &trial, difference)?;
+            return Ok(true);
+        }
+        agreed(outcome.verdicts.as_slice());
     }
+    Ok(false)
 }

@@ -1,6 +1,6 @@
 // What lines are made of: few values, each telling, so that lines meet one another often.
 use frames::Kind;
-use registers::Register;
+use registers::{Register, State};
 
 // The kinds by how often they come.
 pub const KINDS: [(Kind, usize); 14] = [
@@ -52,32 +52,43 @@ pub const VIOLATION: [Register; 3] = [
 // An awake state, and the registers that count for it.
 #[derive(Clone, Copy)]
 pub struct Awake {
-    pub state: u16,
+    pub state: State,
     pub load: Register,
     pub outputs: Register,
 }
 
 pub const AWAKE: [Awake; 3] = [
     Awake {
-        state: 0,
+        state: State::On,
         load: Register::DozeLoad,
         outputs: Register::OnOutputs,
     },
     Awake {
-        state: 1,
+        state: State::Doze,
         load: Register::SleepLoad,
         outputs: Register::DozeOutputs,
     },
     Awake {
-        state: 2,
+        state: State::Sleep,
         load: Register::SuspendLoad,
         outputs: Register::SleepOutputs,
     },
 ];
 
-pub const STATES: [u16; 10] = [0, 0, 1, 1, 1, 2, 2, 2, 3, 4];
+pub const STATES: [State; 10] = [
+    State::On,
+    State::On,
+    State::Doze,
+    State::Doze,
+    State::Doze,
+    State::Sleep,
+    State::Sleep,
+    State::Sleep,
+    State::Suspend,
+    State::Off,
+];
 
-pub const SLEEPS: [u16; 2] = [3, 4];
+pub const SLEEPS: [State; 2] = [State::Suspend, State::Off];
 
 pub const LOADS: [u16; 5] = [0, 1, 1, 1, 2];
 

@@ -49,16 +49,15 @@ impl Random {
     pub fn pick_weighted<T: Copy>(&mut self, pool: &[(T, usize)]) -> T
         requires { 0 < length pool.now }
     {
-        let mut total = 0usize;
-        for (_, weight) in pool.iter() {
-            total = total.saturating_add(*weight);
-        }
+        let total = pool
+            .iter()
+            .fold(0usize, |sum, (_, weight)| sum.saturating_add(*weight));
         let mut left = self.below(total.max(1));
-        for (item, weight) in pool.iter() {
+        for (item, weight) in pool {
             if left < *weight {
                 return *item;
             }
-            left = left - *weight;
+            left -= *weight;
         }
         pool[0].0
     }

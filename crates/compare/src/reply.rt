@@ -1,28 +1,42 @@
 // The twelve digits of an answer, as either side spells them.
-use crate::line::show_byte;
+use crate::line::Line;
+use crate::second::Verdict;
 use frames::Answer;
 use std::fmt;
+use std::fmt::Write;
+
+const DIGITS: usize = 12;
 
 #[derive(Clone, Copy, PartialEq)]
 pub struct Reply {
-    digits: [u8; 12],
+    digits: [u8; DIGITS],
 }
 
 impl Reply {
-    pub fn of(answer: Answer) -> Reply {
-        let [n1, n0, v3, v2, v1, v0, s1, s0, o1, o0, i1, i0, _] = answer.spell();
-        Reply::spelled([n1, n0, v3, v2, v1, v0, s1, s0, o1, o0, i1, i0])
+    // Of a text that begins with them.
+    fn new(text: &[u8]) -> Reply {
+        let digits = text.first_chunk().copied().unwrap_or([b' '; DIGITS]);
+        Reply { digits }
     }
 
-    pub fn spelled(digits: [u8; 12]) -> Reply {
-        Reply { digits }
+    // The engine's, without the end of the line.
+    pub fn of_answer(answer: &Answer) -> Reply {
+        Reply::new(&answer.spell())
+    }
+
+    // The second implementation's.
+    pub fn of_verdict(verdict: &Verdict) -> Reply {
+        let mut text = Line::empty();
+        // There is room, so nothing is left out.
+        let _ = write!(text, "{verdict}");
+        Reply::new(text.bytes())
     }
 }
 
 impl fmt::Display for Reply {
     fn fmt<W: fmt::Write>(&self, f: &mut fmt::Formatter<W>) -> fmt::Result {
         for digit in self.digits.iter() {
-            show_byte(*digit, f)?;
+            write!(f, "{}", char::from(*digit))?;
         }
         Ok(())
     }

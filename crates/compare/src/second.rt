@@ -1,192 +1,119 @@
 // A second engine, written from the rules alone, apart from the first. It keeps the lines that it was given and decides
 // by looking back over them. Nothing is promised of it but that it is safe: it is what the engine is compared with.
+mod effect;
 mod frame;
 mod judging;
 mod past;
+mod refusal;
 pub mod stack;
+mod words;
 
+pub use crate::second::effect::Waker;
+use crate::second::frame::Frame;
 pub use crate::second::frame::Kind;
-use crate::second::frame::{Line, digit_of};
-pub use crate::second::judging::Waker;
-use crate::second::judging::{effect_of, judge, refused_deed, shown_after};
-pub use crate::second::past::State;
-use crate::second::past::{Cause, Deed, Entry, is_cause_pending, present};
-use crate::second::stack::{Board, SOCKETS, Stack};
+pub use crate::second::past::Entry;
+use crate::second::past::{Deed, Past};
+pub use crate::second::refusal::Refusal;
+use crate::second::stack::{Board, SOCKETS};
+pub use crate::second::words::{Cause, State};
 use std::alloc::{AllocError, Global};
-
-const ROOM: usize = 4096;
-
-const CAUSES: usize = 7;
-
-const ANSWER_DIGITS: usize = 12;
+use std::fmt;
 
 #[derive(Drop)]
-pub struct Second {
-    stack: Stack,
-    first: Vec<u8>,
+pub struct Second<'a> {
+    board: &'a Board,
+    // The first bytes of all the chips.
+    first: &'a [u8],
     past: Vec<Entry>,
 }
 
+// What is made of a line.
 #[derive(Clone, Copy)]
 pub struct Verdict {
-    pub digits: [u8; ANSWER_DIGITS],
     // None where the line is no frame, or one of an unknown kind.
     pub kind: Option<Kind>,
-    // 0, or the number of the refusal.
-    pub number: u8,
-    pub state: State,
-    // By the cause's bit in CAUSE, the lowest first.
-    pub arose: [bool; CAUSES],
+    // What is read, or why the line is refused.
+    pub outcome: Result<u16, Refusal>,
+    pub entry: Entry,
     pub woke: Option<Waker>,
+    pub nmi: bool,
 }
 
-impl Second {
-    pub fn new(heap: Global) -> Result<Second, AllocError> {
-        Ok(Second {
-            stack: Stack::new(Board::empty(), 0),
-            first: Vec::new(heap),
-            past: Vec::with_capacity(heap, ROOM)?,
-        })
+impl<'a> Second<'a> {
+    // A new engine over the board.
+    pub fn new(heap: Global, board: &'a Board, first: &'a [u8]) -> Second<'a> {
+        Second {
+            board,
+            first,
+            past: Vec::new(heap),
+        }
     }
 
-    // A new engine over the board; `first` has the first bytes of all its chips.
-    pub fn begin(&mut self, board: Board, first: &[u8]) -> Result<(), AllocError> {
-        self.past.clear();
-        self.first.clear();
-        self.stack = Stack::new(board, first.len());
-        self.first.extend_from_slice(first)
+    fn past(&self) -> Past<'_> {
+        Past::new(self.past.as_slice())
     }
 
     pub fn answer(&mut self, line: &[u8]) -> Result<Verdict, AllocError> {
-        let line = Line::read(line);
-        let (entry, verdict) = self.decide(line);
-        self.past.push(entry)?;
-        Ok(verdict)
-    }
-
-    fn decide(&self, line: Line) -> (Entry, Verdict) {
-        let past = self.past.as_slice();
-        let (deed, value, number) = match judge(past, &self.stack, self.first.as_slice(), line) {
-            Ok(taken) => (taken.deed, taken.value, 0),
-            Err(refusal) => (refused_deed(line, refusal), 0, refusal as u8),
+        let frame = Frame::read(line);
+        let taken = frame.and_then(|frame| self.judge(frame));
+        let deed = match (frame, taken) {
+            (_, Ok(taken)) => taken.deed,
+            // What these two refusals do all the same.
+            (Ok(frame), Err(Refusal::ReadOnlyPage | Refusal::WriteProtected)) => {
+                Deed::Violation { address: frame.a }
+            }
+            _ => Deed::Nothing,
         };
-        let effect = effect_of(past, deed);
-        let after = shown_after(past, deed, effect.state);
+        let past = self.past();
+        let effect = past.effect_of(deed);
         let entry = Entry {
             deed,
-            before: present(past),
-            after,
+            before: past.present(),
+            after: past.shown_after(deed, effect.state),
             arose: effect.arose,
         };
-        let nmi = does_nmi_stand(past, entry);
-        let verdict = Verdict {
-            digits: answer_digits(number, value, entry, nmi),
-            kind: line.kind(),
-            number,
-            state: effect.state,
-            arose: flags_of(effect.arose),
+        self.past.push(entry)?;
+        Ok(Verdict {
+            kind: frame.ok().map(|frame| frame.kind),
+            outcome: taken.map(|taken| taken.value),
+            entry,
             woke: effect.woke,
-        };
-        (entry, verdict)
+            nmi: self.past().is_cause_pending(),
+        })
     }
 
     // What each byte of the flat list is now.
-    pub fn bytes(&self, out: &mut [u8]) {
-        copy_front(out, self.first.as_slice());
-        let past = self.past.as_slice();
-        let losses = last_losses(past);
-        for socket in 0..SOCKETS {
-            if losses[socket].is_some() {
-                self.stack.lose(socket, out);
+    pub fn bytes(&self, heap: Global) -> Result<Vec<u8>, AllocError> {
+        let mut bytes = Vec::from_slice(heap, self.first)?;
+        for entry in self.past.iter() {
+            if let Deed::CpuWrite { index, byte } = entry.deed
+                && let Some(written) = bytes.get_mut(index)
+            {
+                *written = byte;
             }
-        }
-        for i in 0..past.len() {
-            if let Deed::CpuWrite { index, byte } = past[i].deed {
-                if index < out.len() && !is_lost_after(&self.stack, &losses, i, index) {
-                    out[index] = byte;
+            for socket in SOCKETS {
+                if entry.cuts_power(socket.power_line()) {
+                    self.board.layer(socket).lose_power(bytes.as_mut_slice());
                 }
             }
         }
+        Ok(bytes)
     }
 }
 
-// NMI after a line, which may itself have cleared the causes or raised one.
-fn does_nmi_stand(past: &[Entry], entry: Entry) -> bool {
-    match entry.deed {
-        Deed::CauseRead | Deed::Reset => false,
-        _ => entry.arose.is_some() || is_cause_pending(past),
-    }
-}
-
-fn flags_of(arose: Option<Cause>) -> [bool; CAUSES] {
-    let mut flags = [false; CAUSES];
-    if let Some(cause) = arose {
-        match cause {
-            Cause::Doze => flags[0] = true,
-            Cause::Sleep => flags[1] = true,
-            Cause::Suspend => flags[2] = true,
-            Cause::Ext => flags[3] = true,
-            Cause::Battery => flags[4] = true,
-            Cause::Violation => flags[5] = true,
-            Cause::Activity => flags[6] = true,
-        }
-    }
-    flags
-}
-
-fn answer_digits(number: u8, value: u16, entry: Entry, nmi: bool) -> [u8; ANSWER_DIGITS] {
-    let [high, low] = value.to_be_bytes();
-    let state = entry.after.state as u8;
-    let outputs = entry.after.outputs;
-    [
-        digit_of(number >> 4),
-        digit_of(number),
-        digit_of(high >> 4),
-        digit_of(high),
-        digit_of(low >> 4),
-        digit_of(low),
-        b'0',
-        digit_of(state),
-        digit_of(outputs >> 4),
-        digit_of(outputs),
-        b'0',
-        if nmi { b'1' } else { b'0' },
-    ]
-}
-
-// For each socket, the number of the last line that made its power line fall.
-fn last_losses(past: &[Entry]) -> [Option<usize>; SOCKETS] {
-    let mut losses = [None; SOCKETS];
-    for i in 0..past.len() {
-        for socket in 0..SOCKETS {
-            if past[i].cuts_power(socket) {
-                losses[socket] = Some(i);
-            }
-        }
-    }
-    losses
-}
-
-// Whether a line after line `written` had a power loss that changed this byte.
-fn is_lost_after(
-    stack: &Stack,
-    losses: &[Option<usize>; SOCKETS],
-    written: usize,
-    index: usize,
-) -> bool {
-    for socket in 0..SOCKETS {
-        if let Some(loss) = losses[socket] {
-            if loss > written && stack.loses(socket, index) {
-                return true;
-            }
-        }
-    }
-    false
-}
-
-fn copy_front(out: &mut [u8], from: &[u8]) {
-    let length = out.len().min(from.len());
-    for i in 0..length {
-        out[i] = from[i];
+// The twelve digits of the answer.
+impl fmt::Display for Verdict {
+    fn fmt<W: fmt::Write>(&self, f: &mut fmt::Formatter<W>) -> fmt::Result {
+        let (number, value) = match self.outcome {
+            Ok(value) => (0, value),
+            Err(refusal) => (refusal as u8, 0),
+        };
+        let state = self.entry.after.state as u8;
+        let outputs = self.entry.after.outputs;
+        let nmi = u8::from(self.nmi);
+        write!(
+            f,
+            "{number:02X}{value:04X}{state:02X}{outputs:02X}{nmi:02X}"
+        )
     }
 }

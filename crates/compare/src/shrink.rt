@@ -1,30 +1,27 @@
 // A list that shows a difference, made as short as can be.
-use crate::contest::{Contest, Trial};
+ghost use Rattle.std.specs.Prelude.{◌<◌};
+
+use crate::contest::Trial;
+use crate::fault::Fault;
 use crate::line::Line;
 use std::alloc::{AllocError, Global};
-use std::mem::swap;
 
 // The shortest that leaving out lines leads to: without any one of its lines there is no difference.
-pub fn shrink(
-    heap: Global,
-    contest: &mut Contest,
-    trial: Trial,
-    lines: &[Line],
-) -> Result<Vec<Line>, AllocError> {
-    let mut kept = Vec::from_slice(heap, lines)?;
-    let mut spare = Vec::with_capacity(heap, lines.len())?;
-    let mut run = lines.len() / 2;
-    for _ in 0..usize::BITS {
+pub fn shrink<F: Fault>(heap: Global, trial: &Trial<F>) -> Result<Vec<Line>, AllocError> {
+    let count = trial.lines.len();
+    let mut kept = Vec::new(heap);
+    kept.extend_from_slice(trial.lines)?;
+    for halvings in 1..usize::BITS {
+        let run = count >> halvings;
         if run <= 1 {
             break;
         }
-        leave_out(contest, trial, &mut kept, &mut spare, run)?;
-        run = run / 2;
+        kept = leave_out(heap, trial, kept.as_slice(), run)?;
     }
-    // To leave out one line can make another one needless.
-    for _ in 0..lines.len() {
+    // To leave out one line can make another one needless. Each turn but the last leaves out one at least.
+    for _ in 0..count {
         let before = kept.len();
-        leave_out(contest, trial, &mut kept, &mut spare, 1)?;
+        kept = leave_out(heap, trial, kept.as_slice(), 1)?;
         if kept.len() == before {
             break;
         }
@@ -32,28 +29,29 @@ pub fn shrink(
     Ok(kept)
 }
 
-// Tries to leave out each run of so many lines, from the front on.
-fn leave_out(
-    contest: &mut Contest,
-    trial: Trial,
-    kept: &mut Vec<Line>,
-    spare: &mut Vec<Line>,
+// The lines without each run of so many, from the front on, that is not needed for a difference.
+fn leave_out<F: Fault>(
+    heap: Global,
+    trial: &Trial<F>,
+    lines: &[Line],
     run: usize,
-) -> Result<(), AllocError> {
-    let mut at = 0;
-    // Each turn drops a line at least, or goes past one.
-    for _ in 0..kept.len() {
-        if at >= kept.len() {
-            break;
-        }
-        let end = at.saturating_add(run).min(kept.len());
-        spare.clear();
-        spare.extend_from_slice(&kept.as_slice()[0..at])?;
-        spare.extend_from_slice(&kept.as_slice()[end..])?;
-        match contest.compare(trial, spare.as_slice())? {
-            Some(_) => swap(kept, spare),
-            None => at = end,
+) -> Result<Vec<Line>, AllocError>
+    requires { 0 < run }
+{
+    let mut needed = Vec::with_capacity(heap, lines.len())?;
+    let mut rest = lines;
+    for tried in lines.chunks(run) {
+        rest = rest.get(tried.len()..).unwrap_or_default();
+        let mut shorter = Vec::with_capacity(heap, lines.len())?;
+        shorter.extend_from_slice(needed.as_slice())?;
+        shorter.extend_from_slice(rest)?;
+        let shorter = Trial {
+            lines: shorter.as_slice(),
+            ..*trial
+        };
+        if shorter.run(heap)?.difference().is_none() {
+            needed.extend_from_slice(tried)?;
         }
     }
-    Ok(())
+    Ok(needed)
 }

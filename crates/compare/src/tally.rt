@@ -1,213 +1,204 @@
 // How often each thing came up, by what the second implementation says of each line.
-use crate::second::{Kind, State, Verdict, Waker};
-use std::io;
+use crate::second::stack::PowerLine;
+use crate::second::{Cause, Kind, Refusal, State, Verdict, Waker};
+use std::alloc::{AllocError, Global};
+use std::fmt;
 
 #[derive(Drop)]
 pub struct Tally {
     lists: u64,
     lines: u64,
-    kinds: [u64; 14],
-    numbers: [u64; 14],
-    states: [u64; 5],
-    causes: [u64; 7],
-    wakers: [u64; 4],
-    losses: [u64; 3],
+    kinds: Table<Kind>,
+    // None where the line was taken.
+    numbers: Table<Option<Refusal>>,
+    states: Table<State>,
+    causes: Table<Cause>,
+    wakers: Table<Waker>,
+    losses: Table<PowerLine>,
 }
 
-const KINDS: [&str; 14] = [
-    "reset",
-    "register write",
-    "register read",
-    "page write",
-    "page read",
-    "CPU write",
-    "CPU read",
-    "tick",
-    "activity",
-    "EXT",
-    "ring",
-    "alarm",
-    "battery warning",
-    "AC",
+// The things of one sort, and how often each came up.
+#[derive(Drop)]
+struct Table<T> {
+    title: &'static str,
+    rows: Vec<Row<T>>,
+}
+
+#[derive(Clone, Copy)]
+struct Row<T> {
+    thing: T,
+    name: &'static str,
+    count: u64,
+}
+
+const KINDS: [(Kind, &str); 14] = [
+    (Kind::Reset, "reset"),
+    (Kind::RegisterWrite, "register write"),
+    (Kind::RegisterRead, "register read"),
+    (Kind::PageWrite, "page write"),
+    (Kind::PageRead, "page read"),
+    (Kind::CpuWrite, "CPU write"),
+    (Kind::CpuRead, "CPU read"),
+    (Kind::Tick, "tick"),
+    (Kind::Activity, "activity"),
+    (Kind::Ext, "EXT"),
+    (Kind::Ring, "ring"),
+    (Kind::Alarm, "alarm"),
+    (Kind::Battery, "battery warning"),
+    (Kind::Ac, "AC"),
 ];
 
-const NUMBERS: [&str; 14] = [
-    "00 taken",
-    "01 not a frame",
-    "02 unknown kind",
-    "03 unused field not 0",
-    "04 v too large",
-    "05 a too large",
-    "06 asleep",
-    "07 register not writable",
-    "08 page not mapped",
-    "09 page read-only",
-    "0A socket unpowered",
-    "0B no such place",
-    "0C write-protected",
-    "0D cause pending",
+const NUMBERS: [(Option<Refusal>, &str); 14] = [
+    (None, "00 taken"),
+    (Some(Refusal::NoFrame), "01 not a frame"),
+    (Some(Refusal::UnknownKind), "02 unknown kind"),
+    (Some(Refusal::UnusedField), "03 unused field not 0"),
+    (Some(Refusal::LargeValue), "04 v too large"),
+    (Some(Refusal::LargeAddress), "05 a too large"),
+    (Some(Refusal::Asleep), "06 asleep"),
+    (Some(Refusal::FixedRegister), "07 register not writable"),
+    (Some(Refusal::UnmappedPage), "08 page not mapped"),
+    (Some(Refusal::ReadOnlyPage), "09 page read-only"),
+    (Some(Refusal::NoPower), "0A socket unpowered"),
+    (Some(Refusal::NoPlace), "0B no such place"),
+    (Some(Refusal::WriteProtected), "0C write-protected"),
+    (Some(Refusal::CausePending), "0D cause pending"),
 ];
 
-const STATES: [&str; 5] = ["On", "Doze", "Sleep", "Suspend", "Off"];
-
-const CAUSES: [&str; 7] = [
-    "D0 doze",
-    "D1 sleep",
-    "D2 suspend",
-    "D3 EXT",
-    "D4 battery",
-    "D5 violation",
-    "D6 activity",
+const STATES: [(State, &str); 5] = [
+    (State::On, "On"),
+    (State::Doze, "Doze"),
+    (State::Sleep, "Sleep"),
+    (State::Suspend, "Suspend"),
+    (State::Off, "Off"),
 ];
 
-const WAKERS: [&str; 4] = ["reset", "clean press", "programmed ring", "alarm"];
+const CAUSES: [(Cause, &str); 7] = [
+    (Cause::Doze, "D0 doze"),
+    (Cause::Sleep, "D1 sleep"),
+    (Cause::Suspend, "D2 suspend"),
+    (Cause::Ext, "D3 EXT"),
+    (Cause::Battery, "D4 battery"),
+    (Cause::Violation, "D5 violation"),
+    (Cause::Activity, "D6 activity"),
+];
+
+const WAKERS: [(Waker, &str); 4] = [
+    (Waker::Reset, "reset"),
+    (Waker::Press, "clean press"),
+    (Waker::Ring, "programmed ring"),
+    (Waker::Alarm, "alarm"),
+];
 
 // By the power line that fell.
-const LOSSES: [&str; 3] = ["D1 RAM", "D2 ROM", "D3 both cards"];
-
-// The low digit of the outputs among the digits of an answer, and in the answers of a new engine.
-const LOW_OUTPUTS: usize = 9;
-
-const FIRST_OUTPUTS: u8 = 0x0F;
+const LOSSES: [(PowerLine, &str); 3] = [
+    (PowerLine::Ram, "D1 RAM"),
+    (PowerLine::Rom, "D2 ROM"),
+    (PowerLine::Cards, "D3 both cards"),
+];
 
 impl Tally {
-    pub fn new() -> Tally {
-        Tally {
+    pub fn new(heap: Global) -> Result<Tally, AllocError> {
+        Ok(Tally {
             lists: 0,
             lines: 0,
-            kinds: [0; 14],
-            numbers: [0; 14],
-            states: [0; 5],
-            causes: [0; 7],
-            wakers: [0; 4],
-            losses: [0; 3],
-        }
+            kinds: Table::new(heap, "Kinds of frames", &KINDS)?,
+            numbers: Table::new(heap, "Numbers answered", &NUMBERS)?,
+            states: Table::new(heap, "States after a line", &STATES)?,
+            causes: Table::new(heap, "Causes that arose", &CAUSES)?,
+            wakers: Table::new(heap, "What ended Suspend and Off", &WAKERS)?,
+            losses: Table::new(heap, "Power lines that fell", &LOSSES)?,
+        })
     }
 
-    // Takes in a whole list, from a new engine on.
+    // Takes in a whole list.
     pub fn add(&mut self, verdicts: &[Verdict]) {
         self.lists = self.lists.saturating_add(1);
-        let mut outputs = FIRST_OUTPUTS;
         for verdict in verdicts {
             self.add_line(verdict);
-            let now = digit_value(verdict.digits[LOW_OUTPUTS]);
-            self.add_losses(outputs, now);
-            outputs = now;
         }
     }
 
     fn add_line(&mut self, verdict: &Verdict) {
+        let entry = verdict.entry;
         self.lines = self.lines.saturating_add(1);
-        if let Some(kind) = verdict.kind {
-            bump(&mut self.kinds, kind_row(kind));
-        }
-        bump(&mut self.numbers, verdict.number as usize);
-        bump(&mut self.states, state_row(verdict.state));
-        for (cause, arose) in verdict.arose.iter().enumerate() {
-            if *arose {
-                bump(&mut self.causes, cause);
-            }
-        }
-        if let Some(waker) = verdict.woke {
-            bump(&mut self.wakers, waker_row(waker));
-        }
-    }
-
-    // D1, D2 and D3 supply sockets.
-    fn add_losses(&mut self, before: u8, after: u8) {
-        let fallen = before & !after;
-        for (row, line) in [0x02, 0x04, 0x08].iter().enumerate() {
-            if fallen & *line != 0 {
-                bump(&mut self.losses, row);
-            }
-        }
+        self.kinds.count(|kind| verdict.kind == Some(kind));
+        self.numbers
+            .count(|refusal| verdict.outcome.err() == refusal);
+        self.states.count(|state| entry.after.state == state);
+        self.causes.count(|cause| entry.arose == Some(cause));
+        self.wakers.count(|waker| verdict.woke == Some(waker));
+        self.losses.count(|line| entry.cuts_power(line));
     }
 
     // Whether each thing came up at least once.
     pub fn is_complete(&self) -> bool {
-        all_came(&self.kinds)
-            && all_came(&self.numbers)
-            && all_came(&self.states)
-            && all_came(&self.causes)
-            && all_came(&self.wakers)
-            && all_came(&self.losses)
-    }
-
-    pub fn show(&self, rt: &HostRuntime) -> io::Result<()> {
-        show_table(rt, "Kinds of frames", &KINDS, &self.kinds)?;
-        show_table(rt, "Numbers answered", &NUMBERS, &self.numbers)?;
-        show_table(rt, "States after a line", &STATES, &self.states)?;
-        show_table(rt, "Causes that arose", &CAUSES, &self.causes)?;
-        show_table(rt, "What ended Suspend and Off", &WAKERS, &self.wakers)?;
-        show_table(rt, "Power lines that fell", &LOSSES, &self.losses)?;
-        let lists = self.lists;
-        let lines = self.lines;
-        println!(rt; "{lists} lists, {lines} lines agreed")
+        self.kinds.is_complete()
+            && self.numbers.is_complete()
+            && self.states.is_complete()
+            && self.causes.is_complete()
+            && self.wakers.is_complete()
+            && self.losses.is_complete()
     }
 }
 
-fn show_table(rt: &HostRuntime, title: &str, names: &[&str], counts: &[u64]) -> io::Result<()> {
-    println!(rt; "{title}:")?;
-    for (name, count) in names.iter().zip(counts.iter()) {
-        let mark = if *count == 0 { "  never came up" } else { "" };
-        println!(rt; "  {name:<26}{count:>8}{mark}")?;
-    }
-    Ok(())
-}
-
-fn bump(counts: &mut [u64], row: usize) {
-    if row < counts.len() {
-        counts[row] = counts[row].saturating_add(1);
-    }
-}
-
-fn all_came(counts: &[u64]) -> bool {
-    !counts.contains(&0)
-}
-
-// The value of a digit, 0-9 and A-F; 0 for any other byte.
-fn digit_value(digit: u8) -> u8 {
-    match digit {
-        b'0'..=b'9' => digit - b'0',
-        b'A'..=b'F' => digit - b'A' + 10,
-        _ => 0,
+impl fmt::Display for Tally {
+    fn fmt<W: fmt::Write>(&self, f: &mut fmt::Formatter<W>) -> fmt::Result {
+        let Tally {
+            lists,
+            lines,
+            kinds,
+            numbers,
+            states,
+            causes,
+            wakers,
+            losses,
+        } = self;
+        write!(f, "{kinds}{numbers}{states}{causes}{wakers}{losses}")?;
+        write!(f, "{lists} lists, {lines} lines agreed")
     }
 }
 
-fn kind_row(kind: Kind) -> usize {
-    match kind {
-        Kind::Reset => 0,
-        Kind::RegisterWrite => 1,
-        Kind::RegisterRead => 2,
-        Kind::PageWrite => 3,
-        Kind::PageRead => 4,
-        Kind::CpuWrite => 5,
-        Kind::CpuRead => 6,
-        Kind::Tick => 7,
-        Kind::Activity => 8,
-        Kind::Ext => 9,
-        Kind::Ring => 10,
-        Kind::Alarm => 11,
-        Kind::Battery => 12,
-        Kind::Ac => 13,
+impl<T: Copy> Table<T> {
+    fn new(
+        heap: Global,
+        title: &'static str,
+        names: &[(T, &'static str)],
+    ) -> Result<Table<T>, AllocError> {
+        let rows = names
+            .iter()
+            .map(|(thing, name)| Row {
+                thing: *thing,
+                name: *name,
+                count: 0,
+            })
+            .collect(heap)?;
+        Ok(Table { title, rows })
+    }
+
+    // Counts each thing that came up.
+    fn count<F: Fn(T) -> bool>(&mut self, came_up: F)
+        requires { F.IsAlwaysCallable came_up }
+    {
+        for row in self.rows.iter_mut() {
+            if came_up(row.thing) {
+                row.count = row.count.saturating_add(1);
+            }
+        }
+    }
+
+    fn is_complete(&self) -> bool {
+        self.rows.iter().all(|row| row.count > 0)
     }
 }
 
-fn state_row(state: State) -> usize {
-    match state {
-        State::On => 0,
-        State::Doze => 1,
-        State::Sleep => 2,
-        State::Suspend => 3,
-        State::Off => 4,
-    }
-}
-
-fn waker_row(waker: Waker) -> usize {
-    match waker {
-        Waker::Reset => 0,
-        Waker::Press => 1,
-        Waker::Ring => 2,
-        Waker::Alarm => 3,
+impl<T> fmt::Display for Table<T> {
+    fn fmt<W: fmt::Write>(&self, f: &mut fmt::Formatter<W>) -> fmt::Result {
+        writeln!(f, "{}:", self.title)?;
+        for Row { name, count, .. } in self.rows.iter() {
+            let mark = if *count == 0 { "  never came up" } else { "" };
+            writeln!(f, "  {name:<26}{count:>8}{mark}")?;
+        }
+        Ok(())
     }
 }

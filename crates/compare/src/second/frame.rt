@@ -1,4 +1,5 @@
 // What a line of input says, before anything is known of the engine.
+use crate::second::refusal::Refusal;
 
 #[derive(Clone, Copy, PartialEq, Eq)]
 pub enum Kind {
@@ -18,25 +19,11 @@ pub enum Kind {
     Ac,
 }
 
-// What a kind wants of one field of its frame.
-#[derive(Clone, Copy)]
-pub enum Field {
-    Unused,
-    UpTo(u32),
-}
-
 #[derive(Clone, Copy)]
 pub struct Frame {
     pub kind: Kind,
     pub a: u32,
     pub v: u32,
-}
-
-#[derive(Clone, Copy)]
-pub enum Line {
-    NoFrame,
-    UnknownKind,
-    Known(Frame),
 }
 
 const DIGITS: usize = 12;
@@ -59,129 +46,109 @@ const LARGEST_LEVEL: u32 = 1;
 
 const STATE_INDEX: u32 = 0;
 
-impl Kind {
-    fn from_number(number: u32) -> Option<Kind> {
-        match number {
-            0x00 => Some(Kind::Reset),
-            0x01 => Some(Kind::RegisterWrite),
-            0x02 => Some(Kind::RegisterRead),
-            0x03 => Some(Kind::PageWrite),
-            0x04 => Some(Kind::PageRead),
-            0x05 => Some(Kind::CpuWrite),
-            0x06 => Some(Kind::CpuRead),
-            0x10 => Some(Kind::Tick),
-            0x11 => Some(Kind::Activity),
-            0x12 => Some(Kind::Ext),
-            0x13 => Some(Kind::Ring),
-            0x14 => Some(Kind::Alarm),
-            0x15 => Some(Kind::Battery),
-            0x16 => Some(Kind::Ac),
-            _ => None,
-        }
-    }
+impl TryFrom<u32> for Kind {
+    type Error = Refusal;
 
-    // Commands of the processor, which a sleeping machine has none of; the other kinds are events.
-    pub fn is_command(self) -> bool {
-        match self {
-            Kind::RegisterWrite
-            | Kind::RegisterRead
-            | Kind::PageWrite
-            | Kind::PageRead
-            | Kind::CpuWrite
-            | Kind::CpuRead => true,
-            _ => false,
+    fn try_from(number: u32) -> Result<Kind, Refusal> {
+        match number {
+            0x00 => Ok(Kind::Reset),
+            0x01 => Ok(Kind::RegisterWrite),
+            0x02 => Ok(Kind::RegisterRead),
+            0x03 => Ok(Kind::PageWrite),
+            0x04 => Ok(Kind::PageRead),
+            0x05 => Ok(Kind::CpuWrite),
+            0x06 => Ok(Kind::CpuRead),
+            0x10 => Ok(Kind::Tick),
+            0x11 => Ok(Kind::Activity),
+            0x12 => Ok(Kind::Ext),
+            0x13 => Ok(Kind::Ring),
+            0x14 => Ok(Kind::Alarm),
+            0x15 => Ok(Kind::Battery),
+            0x16 => Ok(Kind::Ac),
+            _ => Err(Refusal::UnknownKind),
         }
     }
 }
 
-impl Field {
-    fn is_misused(self, content: u32) -> bool {
-        match self {
-            Field::Unused => content != 0,
-            Field::UpTo(_) => false,
-        }
-    }
-
-    fn is_exceeded(self, content: u32) -> bool {
-        match self {
-            Field::Unused => false,
-            Field::UpTo(largest) => content > largest,
-        }
+impl Kind {
+    // Commands of the processor, which a sleeping machine has none of; the other kinds are events.
+    pub fn is_command(self) -> bool {
+        matches!(
+            self,
+            Kind::RegisterWrite
+                | Kind::RegisterRead
+                | Kind::PageWrite
+                | Kind::PageRead
+                | Kind::CpuWrite
+                | Kind::CpuRead
+        )
     }
 }
 
 impl Frame {
-    fn a_field(self) -> Field {
+    // The frame that a line spells.
+    pub fn read(line: &[u8]) -> Result<Frame, Refusal> {
+        let (number, a, v) = fields_of(line).ok_or(Refusal::NoFrame)?;
+        let kind = Kind::try_from(number)?;
+        Ok(Frame { kind, a, v })
+    }
+
+    // The largest a; None where the kind does not use it.
+    fn largest_a(self) -> Option<u32> {
         match self.kind {
-            Kind::RegisterWrite | Kind::RegisterRead => Field::UpTo(LARGEST_INDEX),
-            Kind::PageWrite | Kind::PageRead => Field::UpTo(LARGEST_PAGE),
-            Kind::CpuWrite | Kind::CpuRead => Field::UpTo(LARGEST_ADDRESS),
-            Kind::Activity => Field::UpTo(LARGEST_SOURCE),
-            _ => Field::Unused,
+            Kind::RegisterWrite | Kind::RegisterRead => Some(LARGEST_INDEX),
+            Kind::PageWrite | Kind::PageRead => Some(LARGEST_PAGE),
+            Kind::CpuWrite | Kind::CpuRead => Some(LARGEST_ADDRESS),
+            Kind::Activity => Some(LARGEST_SOURCE),
+            _ => None,
         }
     }
 
-    fn v_field(self) -> Field {
+    // The largest v; None where the kind does not use it.
+    fn largest_v(self) -> Option<u32> {
         match self.kind {
-            Kind::RegisterWrite if self.a == STATE_INDEX => Field::UpTo(LARGEST_STATE),
-            Kind::RegisterWrite | Kind::CpuWrite => Field::UpTo(LARGEST_BYTE),
-            Kind::PageWrite => Field::UpTo(LARGEST_WORD),
-            Kind::Ext | Kind::Ring | Kind::Battery | Kind::Ac => Field::UpTo(LARGEST_LEVEL),
-            _ => Field::Unused,
+            Kind::RegisterWrite if self.a == STATE_INDEX => Some(LARGEST_STATE),
+            Kind::RegisterWrite | Kind::CpuWrite => Some(LARGEST_BYTE),
+            Kind::PageWrite => Some(LARGEST_WORD),
+            Kind::Ext | Kind::Ring | Kind::Battery | Kind::Ac => Some(LARGEST_LEVEL),
+            _ => None,
         }
     }
 
-    pub fn misuses_a_field(self) -> bool {
-        self.a_field().is_misused(self.a) || self.v_field().is_misused(self.v)
-    }
-
-    pub fn exceeds_v(self) -> bool {
-        self.v_field().is_exceeded(self.v)
-    }
-
-    pub fn exceeds_a(self) -> bool {
-        self.a_field().is_exceeded(self.a)
+    // Whether each field holds what the kind wants of it.
+    pub fn check(self) -> Result<(), Refusal> {
+        let largest_a = self.largest_a();
+        let largest_v = self.largest_v();
+        if (largest_a.is_none() && self.a != 0) || (largest_v.is_none() && self.v != 0) {
+            return Err(Refusal::UnusedField);
+        }
+        if largest_v.is_some_and(|largest| self.v > largest) {
+            return Err(Refusal::LargeValue);
+        }
+        if largest_a.is_some_and(|largest| self.a > largest) {
+            return Err(Refusal::LargeAddress);
+        }
+        Ok(())
     }
 }
 
-impl Line {
-    pub fn read(bytes: &[u8]) -> Line {
-        if bytes.len() != DIGITS {
-            return Line::NoFrame;
-        }
-        let Some(number) = field_of(&bytes[0..2]) else {
-            return Line::NoFrame;
-        };
-        let Some(a) = field_of(&bytes[2..8]) else {
-            return Line::NoFrame;
-        };
-        let Some(v) = field_of(&bytes[8..12]) else {
-            return Line::NoFrame;
-        };
-        match Kind::from_number(number) {
-            Some(kind) => Line::Known(Frame { kind, a, v }),
-            None => Line::UnknownKind,
-        }
+// The kind's number, a and v; None where the line is no frame.
+fn fields_of(line: &[u8]) -> Option<(u32, u32, u32)> {
+    if line.len() != DIGITS {
+        return None;
     }
-
-    pub fn kind(self) -> Option<Kind> {
-        match self {
-            Line::Known(frame) => Some(frame.kind),
-            Line::NoFrame | Line::UnknownKind => None,
-        }
-    }
+    let number = number_of(&line[0..2])?;
+    let a = number_of(&line[2..8])?;
+    let v = number_of(&line[8..12])?;
+    Some((number, a, v))
 }
 
 // The number that at most eight digits spell, the highest first; None where one is no digit.
-fn field_of(digits: &[u8]) -> Option<u32> {
-    let mut number = 0u32;
-    for digit in digits {
-        let Some(worth) = worth_of(*digit) else {
-            return None;
-        };
-        number = (number << 4) | worth;
-    }
-    Some(number)
+fn number_of(digits: &[u8]) -> Option<u32> {
+    digits.iter().try_fold(
+        0u32,
+        |number, digit| Some((number << 4) | worth_of(*digit)?),
+    )
 }
 
 fn worth_of(digit: u8) -> Option<u32> {
@@ -189,15 +156,5 @@ fn worth_of(digit: u8) -> Option<u32> {
         b'0'..=b'9' => Some(u32::from(digit - b'0')),
         b'A'..=b'F' => Some(u32::from(digit - b'A') + 10),
         _ => None,
-    }
-}
-
-// The digit of the low four bits.
-pub fn digit_of(number: u8) -> u8 {
-    let worth = number & 0x0f;
-    if worth < 10 {
-        b'0' + worth
-    } else {
-        b'A' + (worth - 10)
     }
 }

@@ -1,46 +1,67 @@
 // What stands in the sockets: chips over one flat list of bytes, and layers over them.
 
-pub const LAYERS: usize = 16;
-
-pub const SOCKETS: usize = 4;
-
 const LARGEST_SIZE: usize = 67_108_864;
 
-const FLAGS: usize = 256;
 // What a volatile byte becomes when its power is lost.
 pub const LOST: u8 = 0xff;
 
+#[derive(Clone, Copy, PartialEq, Eq)]
+pub enum ChipKind {
+    Ram,
+    BackedRam,
+    Rom,
+}
+
+// A chip, and the part of the flat list that it has.
 #[derive(Clone, Copy)]
+pub struct Chip {
+    pub kind: ChipKind,
+    pub start: usize,
+    pub size: usize,
+}
+
+#[derive(Drop)]
 pub enum Layer {
-    Ram {
-        start: usize,
-        size: usize,
-    },
-    BackedRam {
-        start: usize,
-        size: usize,
-    },
-    Rom {
-        start: usize,
-        size: usize,
-    },
+    Chip(Chip),
     Empty,
+    // The flagged segments by their numbers; a segment beyond those of a byte has no flag.
     Guard {
-        below: usize,
+        below: Box<Layer>,
         segment: usize,
-        flags: [usize; 4],
+        flags: [u8; 4],
     },
     Pair {
-        even: usize,
-        odd: usize,
+        even: Box<Layer>,
+        odd: Box<Layer>,
     },
 }
 
-// A layer refers only to layers before it; what it refers to otherwise counts as empty.
-#[derive(Clone, Copy)]
+#[derive(Clone, Copy, PartialEq, Eq)]
+pub enum Socket {
+    Ram,
+    Rom,
+    CardA,
+    CardB,
+}
+
+pub const SOCKETS: [Socket; 4] = [Socket::Ram, Socket::Rom, Socket::CardA, Socket::CardB];
+
+// The power lines that supply sockets, by their bits in the outputs.
+#[derive(Clone, Copy, PartialEq, Eq)]
+pub enum PowerLine {
+    Ram = 0x02,
+    Rom = 0x04,
+    Cards = 0x08,
+}
+
+// What stands in the four sockets, over a flat list of so many bytes.
+#[derive(Drop)]
 pub struct Board {
-    pub layers: [Layer; LAYERS],
-    pub sockets: [usize; SOCKETS],
+    pub ram: Layer,
+    pub rom: Layer,
+    pub card_a: Layer,
+    pub card_b: Layer,
+    pub bytes: usize,
 }
 
 // Where a place of a socket lies in the flat list.
@@ -48,183 +69,109 @@ pub struct Board {
 pub struct Spot {
     pub index: usize,
     pub writable: bool,
+    pub volatile: bool,
 }
 
-// A board over a flat list of a certain length, with the size of each layer.
-#[derive(Clone, Copy)]
-pub struct Stack {
-    layers: [Layer; LAYERS],
-    sizes: [usize; LAYERS],
-    sockets: [usize; SOCKETS],
+impl Socket {
+    pub fn power_line(self) -> PowerLine {
+        match self {
+            Socket::Ram => PowerLine::Ram,
+            Socket::Rom => PowerLine::Rom,
+            Socket::CardA | Socket::CardB => PowerLine::Cards,
+        }
+    }
 }
 
 impl Board {
-    pub fn empty() -> Board {
-        Board {
-            layers: [Layer::Empty; LAYERS],
-            sockets: [0; SOCKETS],
+    pub fn layer(&self, socket: Socket) -> &Layer {
+        match socket {
+            Socket::Ram => &self.ram,
+            Socket::Rom => &self.rom,
+            Socket::CardA => &self.card_a,
+            Socket::CardB => &self.card_b,
         }
     }
 }
 
-impl Stack {
-    pub fn new(board: Board, bytes: usize) -> Stack {
-        let mut sizes = [0usize; LAYERS];
-        for k in 0..LAYERS {
-            let size = layer_size(board.layers[k], k, &sizes, bytes);
-            sizes[k] = size;
-        }
-        Stack {
-            layers: board.layers,
-            sizes,
-            sockets: board.sockets,
-        }
+impl Chip {
+    fn size(self) -> usize {
+        self.size.min(LARGEST_SIZE)
     }
 
-    fn top_of(&self, socket: usize) -> usize {
-        self.sockets.get(socket).copied().unwrap_or(LAYERS)
+    fn spot(self, place: usize) -> Option<Spot> {
+        Some(Spot {
+            index: self.start.checked_add(place)?,
+            writable: self.kind != ChipKind::Rom,
+            volatile: self.kind == ChipKind::Ram,
+        })
     }
 
-    // Where a place of the socket lies, by the way down from the socket to a chip. None where it
-    // is at or beyond the size of a layer on the way.
-    pub fn spot(&self, socket: usize, place: usize) -> Option<Spot> {
-        let mut layer = self.top_of(socket);
-        let mut place = place;
-        let mut guarded = false;
-        // Each step goes to an earlier layer, so there are at most as many steps as layers.
-        for _ in 0..LAYERS {
-            if layer >= LAYERS || place >= self.sizes[layer] {
-                return None;
-            }
-            let next = match self.layers[layer] {
-                Layer::Ram { start, .. } | Layer::BackedRam { start, .. } => {
-                    return spot_in(start, place, !guarded);
-                }
-                Layer::Rom { start, .. } => return spot_in(start, place, false),
-                Layer::Empty => return None,
-                Layer::Guard {
-                    below,
-                    segment,
-                    flags,
-                } => {
-                    guarded = guarded || is_flagged(segment, &flags, place);
-                    below
-                }
-                Layer::Pair { even, odd } => {
-                    let chip = if place % 2 == 0 { even } else { odd };
-                    place /= 2;
-                    chip
-                }
-            };
-            if next >= layer {
-                return None;
-            }
-            layer = next;
-        }
-        None
+    fn bytes_of<'a>(self, bytes: &'a mut [u8]) -> Option<&'a mut [u8]> {
+        bytes.get_mut(self.start..)?.get_mut(..self.size())
     }
+}
 
-    // Which layers a power loss of the socket comes to.
-    fn reached_from(&self, socket: usize) -> [bool; LAYERS] {
-        let mut reached = [false; LAYERS];
-        let top = self.top_of(socket);
-        if top < LAYERS {
-            reached[top] = true;
-        }
-        for k in (0..LAYERS).rev() {
-            if reached[k] {
-                match self.layers[k] {
-                    Layer::Guard { below, .. } => mark_below(&mut reached, k, below),
-                    Layer::Pair { even, odd } => {
-                        mark_below(&mut reached, k, even);
-                        mark_below(&mut reached, k, odd);
-                    }
-                    _ => {}
-                }
+impl Layer {
+    fn size(&self) -> usize {
+        match self {
+            Layer::Chip(chip) => chip.size(),
+            Layer::Empty => 0,
+            Layer::Guard { below, .. } => below.size(),
+            Layer::Pair { even, odd } => {
+                let shorter = even.size().min(odd.size());
+                shorter.saturating_mul(2).min(LARGEST_SIZE)
             }
         }
-        reached
     }
 
-    // Whether a power loss of the socket changes this byte of the flat list.
-    pub fn loses(&self, socket: usize, index: usize) -> bool {
-        let reached = self.reached_from(socket);
-        for k in 0..LAYERS {
-            if reached[k] {
-                if let Layer::Ram { start, .. } = self.layers[k] {
-                    if index >= start && index - start < self.sizes[k] {
-                        return true;
-                    }
-                }
+    // Where a place lies, by the way down to a chip. None where it is at or beyond the size of a
+    // layer on the way.
+    pub fn spot(&self, place: usize) -> Option<Spot> {
+        if place >= self.size() {
+            return None;
+        }
+        match self {
+            Layer::Chip(chip) => chip.spot(place),
+            Layer::Empty => None,
+            Layer::Guard {
+                below,
+                segment,
+                flags,
+            } => {
+                let spot = below.spot(place)?;
+                Some(Spot {
+                    writable: spot.writable && !is_flagged(*segment, flags, place),
+                    ..spot
+                })
+            }
+            Layer::Pair { even, odd } => {
+                let half = if place % 2 == 0 { even } else { odd };
+                half.spot(place / 2)
             }
         }
-        false
     }
 
-    // A power loss of the socket, done to the flat list.
-    pub fn lose(&self, socket: usize, bytes: &mut [u8]) {
-        let reached = self.reached_from(socket);
-        for k in 0..LAYERS {
-            if reached[k] {
-                if let Layer::Ram { start, .. } = self.layers[k] {
-                    fill_lost(bytes, start, self.sizes[k]);
+    // A power loss, done to the flat list.
+    pub fn lose_power(&self, bytes: &mut [u8]) {
+        match self {
+            Layer::Chip(chip) if chip.kind == ChipKind::Ram => {
+                if let Some(lost) = chip.bytes_of(bytes) {
+                    lost.fill(LOST);
                 }
+            }
+            Layer::Chip(_) | Layer::Empty => {}
+            Layer::Guard { below, .. } => below.lose_power(bytes),
+            Layer::Pair { even, odd } => {
+                even.lose_power(bytes);
+                odd.lose_power(bytes);
             }
         }
     }
 }
 
-// The size of a layer, from the sizes of those before it.
-fn layer_size(layer: Layer, number: usize, sizes: &[usize; LAYERS], bytes: usize) -> usize {
-    match layer {
-        Layer::Ram { start, size } => chip_size(start, size, bytes),
-        Layer::BackedRam { start, size } => chip_size(start, size, bytes),
-        Layer::Rom { start, size } => chip_size(start, size, bytes),
-        Layer::Empty => 0,
-        Layer::Guard { below, .. } => size_below(sizes, number, below),
-        Layer::Pair { even, odd } => {
-            let shorter = size_below(sizes, number, even).min(size_below(sizes, number, odd));
-            shorter.saturating_mul(2).min(LARGEST_SIZE)
-        }
-    }
-}
-
-// A chip's size, without bytes that the flat list does not have.
-fn chip_size(start: usize, size: usize, bytes: usize) -> usize {
-    size.min(LARGEST_SIZE).min(bytes.saturating_sub(start))
-}
-
-fn size_below(sizes: &[usize; LAYERS], layer: usize, below: usize) -> usize {
-    if below < layer && below < LAYERS {
-        sizes[below]
-    } else {
-        0
-    }
-}
-
-fn mark_below(reached: &mut [bool; LAYERS], layer: usize, below: usize) {
-    if below < layer && below < LAYERS {
-        reached[below] = true;
-    }
-}
-
-fn spot_in(start: usize, place: usize, writable: bool) -> Option<Spot> {
-    match start.checked_add(place) {
-        Some(index) => Some(Spot { index, writable }),
-        None => None,
-    }
-}
-
-fn is_flagged(segment: usize, flags: &[usize; 4], place: usize) -> bool {
-    let Some(number) = place.checked_div(segment) else {
-        return false;
-    };
-    number < FLAGS && flags.contains(&number)
-}
-
-fn fill_lost(bytes: &mut [u8], start: usize, size: usize) {
-    let end = start.saturating_add(size).min(bytes.len());
-    for i in start..end {
-        bytes[i] = LOST;
+fn is_flagged(segment: usize, flags: &[u8; 4], place: usize) -> bool {
+    match place.checked_div(segment) {
+        Some(number) => flags.iter().any(|flag| usize::from(*flag) == number),
+        None => false,
     }
 }

@@ -18,6 +18,7 @@ const CHIPS: usize = 6;
 
 const GUARDS: usize = 4;
 
+// Told apart by a match: each shape is another type, so there is no one function that a table could hold.
 #[derive(Clone, Copy, PartialEq)]
 pub enum Shape {
     // As the program's board.

@@ -3,6 +3,7 @@ use crate::line::{FRAME_LENGTH, Frame, LONGEST, Line};
 use crate::pools;
 use crate::random::Random;
 
+// An enum with a match, and no table of functions: what is known of a function is lost where it is drawn from a table.
 #[derive(Clone, Copy)]
 enum Damage {
     Emptied,

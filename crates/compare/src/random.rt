@@ -20,6 +20,8 @@ impl Random {
         x ^ (x >> 31)
     }
 
+    // That a bound is not 0 is asked of the caller, here and below: nearly all are literals or the lengths of constant
+    // pools, where a type for it would only be made and taken apart.
     pub fn below(&mut self, bound: usize) -> usize
         requires { 0 < bound }
         ensures { result < bound }

@@ -2,6 +2,7 @@
 use Rattle.std.proofs.Common.{◌≡◌, ℕ, ◌+◌, ◌*◌, Bool, true, false, cond, ◌&&◌, eqb, [], ◌∷◌, length, get_or, Some, None, Option, Ok, Err, Result, refl, ap, ◌∙◌, sym, arith}
 use Rattle.std.proofs.lemmas.Bool.{cond-true, cond-false}
 use Rattle.std.specs.Option.{ok_or}
+use Rattle.std.proofs.lemmas.Bool.Decides.{nat_tests}
 use Rattle.terms.specs.declared.refusal.Refusal.{Refusal}
 use Rattle.terms.specs.declared.refusal.Refusal.TheVariants as refusal
 use Rattle.frames.specs.Lines.{Line, digit, is_digit, all_digits, is_frame, kind_field, a_field, v_field}
@@ -20,19 +21,7 @@ four a b c d = is_digit a && (is_digit b && (is_digit c && is_digit d))
 
 of_twelve : (a b c d e f g h i j k l : Bool)
     → (a && (b && (c && (d && (e && (f && (g && (h && (i && (j && (k && (l && true)))))))))))) ≡ ((a && b) && ((c && d) && ((e && (f && (g && h))) && (i && (j && (k && l))))))
-of_twelve false b c d e f g h i j k l = refl
-of_twelve true false c d e f g h i j k l = refl
-of_twelve true true false d e f g h i j k l = refl
-of_twelve true true true false e f g h i j k l = refl
-of_twelve true true true true false f g h i j k l = refl
-of_twelve true true true true true false g h i j k l = refl
-of_twelve true true true true true true false h i j k l = refl
-of_twelve true true true true true true true false i j k l = refl
-of_twelve true true true true true true true true false j k l = refl
-of_twelve true true true true true true true true true false k l = refl
-of_twelve true true true true true true true true true true false l = refl
-of_twelve true true true true true true true true true true true false = refl
-of_twelve true true true true true true true true true true true true = refl
+of_twelve a b c d e f g h i j k l = grind (arith, nat_tests)
 
 -- a line of twelve bytes is a frame where its parts are digits
 pub twelve : (l : Line) → length l ≡ 12
@@ -66,26 +55,18 @@ cut_value : (b : Bool) (f g : ℕ) → Some f ≡ cond b (Some g) None → f ≡
 cut_value true f g e = cc
 cut_value false f g e = let z : ◌≡◌ {A = ℕ} 0 1 = cc in absurd (omega arith)
 
+-- four conditions together, of which one fails, or none
 second_fails : (a b c d : Bool) → b ≡ false → (a && (b && (c && d))) ≡ false
-second_fails false b c d e = refl
-second_fails true b c d e = ap (λ t. t && (c && d)) e
+second_fails a b c d e = grind (arith, nat_tests)
 
 third_fails : (a b c d : Bool) → c ≡ false → (a && (b && (c && d))) ≡ false
-third_fails false b c d e = refl
-third_fails true false c d e = refl
-third_fails true true c d e = ap (λ t. t && d) e
+third_fails a b c d e = grind (arith, nat_tests)
 
 last_fails : (a b c d : Bool) → d ≡ false → (a && (b && (c && d))) ≡ false
-last_fails false b c d e = refl
-last_fails true false c d e = refl
-last_fails true true false d e = refl
-last_fails true true true d e = e
+last_fails a b c d e = grind (arith, nat_tests)
 
 none_fails : (a b c d : Bool) → a ≡ true → b ≡ true → c ≡ true → d ≡ true → (a && (b && (c && d))) ≡ true
-none_fails true true true d ea eb ec ed = ed
-none_fails true true false d ea eb ec ed = ec
-none_fails true false c d ea eb ec ed = eb
-none_fails false b c d ea eb ec ed = ea
+none_fails a b c d ea eb ec ed = grind (arith, nat_tests)
 
 -- whether the four parts of a line are digits
 abbrev first : Line → Bool

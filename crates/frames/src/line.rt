@@ -10,7 +10,7 @@ use super::{Command, Kind};
 use registers::{Event, Register, Source};
 use terms::{CpuAddress, CpuPage, Refusal};
 
-// The three numbers of a frame.
+// The three numbers of a frame, as the digits spell them: the first need not be that of a kind.
 #[derive(Clone, Copy, Debug, PartialEq, Eq)]
 pub struct Fields {
     kind: u32,

@@ -33,9 +33,6 @@ impl Cause {
     pub(crate) fn is_maskable(self) -> bool
         ensures { result ≡ maskable self }
     {
-        match self {
-            Cause::Activity => false,
-            _ => true,
-        }
+        self != Cause::Activity
     }
 }

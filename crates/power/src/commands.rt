@@ -2,8 +2,8 @@
 ghost use Rattle.std.specs.Prelude.{◌≡◌, ◌<◌, true, false, Ok, Err, if◌then◌else◌, ◌==◌, slice_index};
 ghost use Rattle.registers.specs.States.{asleep};
 ghost use Rattle.registers.specs.Registers.{index, bit};
-ghost use Rattle.power.specs.Power.{cause, put, reloaded, entered, reset};
-ghost use Rattle.power.specs.Causes.{raised, violated};
+ghost use Rattle.power.specs.Power.{cause, mask, put, reloaded, entered, reset};
+ghost use Rattle.power.specs.Causes.{position, raised, violated};
 ghost use Rattle.power.specs.Commands.{read_answer, read_done, write_answer, write_done};
 ghost use Rattle.power.specs.View.{view};
 ghost use Rattle.terms.specs.declared.refusal.Refusal.TheVariants.{Asleep};
@@ -143,17 +143,24 @@ impl PowerUnit {
         self.idle = TICKS_PER_LOAD * u16::from(load);
     }
 
-    // Gives the cause: it arises unless it is masked. That the unit is awake is asked of the few callers in this crate,
-    // each of which has just looked: a type for an awake unit would be made for a single call.
+    // Gives the cause: it arises unless it is masked. That the unit is awake is asked of the callers, all in this crate,
+    // each of which has just matched the state: a type for an awake unit would be made only for this call.
     pub(crate) fn raise(&mut self, cause: Cause)
         requires { asleep self.old.state ≡ false }
         ensures { view self.new ≡ raised cause (view self.old) }
     {
-        if cause.is_maskable() && bit(cause.position(), self.get(Register::Mask)) {
+        if cause.is_maskable() && self.masks(cause) {
             return;
         }
         let causes = self.get(Register::Cause) | cause.flag();
         self.set(Register::Cause, causes);
+    }
+
+    // Whether MASK has the bit of the cause.
+    pub(crate) fn masks(&self, cause: Cause) -> bool
+        ensures { result ≡ bit (position cause) (mask (view self.now)) }
+    {
+        bit(cause.position(), self.get(Register::Mask))
     }
 
     fn take_causes(&mut self) -> u8

@@ -72,7 +72,7 @@ impl PowerUnit {
     {
         match self.state {
             State::On => self.ac,
-            State::Sleep => bit(Cause::Suspend.position(), self.get(Register::Mask)),
+            State::Sleep => self.masks(Cause::Suspend),
             State::Doze | State::Suspend | State::Off => false,
         }
     }
@@ -82,46 +82,34 @@ impl PowerUnit {
         ensures { view self.new ≡ expired self.old.state (view self.old) }
     {
         match self.state {
-            State::On => self.fall(State::Doze, Cause::Doze),
-            State::Doze => self.fall(State::Sleep, Cause::Sleep),
+            State::On => self.enter_or_raise(Cause::Doze, State::Doze, Cause::Doze),
+            State::Doze => self.enter_or_raise(Cause::Sleep, State::Sleep, Cause::Sleep),
             State::Sleep => self.raise(Cause::Suspend),
             State::Suspend | State::Off => {}
         }
     }
 
-    // The idle counter has run out in On or Doze: the next state where its cause is masked, else an interrupt.
-    fn fall(&mut self, next: State, cause: Cause)
+    // The state is entered where the cause `led_here` is masked; where it is not, the other cause is given.
+    fn enter_or_raise(&mut self, led_here: Cause, next: State, cause: Cause)
         requires { (asleep self.old.state ≡ false) × (asleep next ≡ false) }
-        ensures { view self.new ≡ (if bit (position cause) (mask (view self.old)) then entered next (view self.old) else raised cause (view self.old)) }
+        ensures { view self.new ≡ (if bit (position led_here) (mask (view self.old)) then entered next (view self.old) else raised cause (view self.old)) }
     {
-        if bit(cause.position(), self.get(Register::Mask)) {
+        if self.masks(led_here) {
             self.enter(next);
         } else {
             self.raise(cause);
         }
     }
 
-    // Activity from a source that is not ignored.
+    // Activity from a source that is not ignored. In Doze and Sleep the cause that led there decides.
     fn wake_or_reload(&mut self)
         ensures { view self.new ≡ active self.old.state (view self.old) }
     {
         match self.state {
             State::On => self.reload(),
-            State::Doze => self.leave_idle(Cause::Doze),
-            State::Sleep => self.leave_idle(Cause::Sleep),
+            State::Doze => self.enter_or_raise(Cause::Doze, State::On, Cause::Activity),
+            State::Sleep => self.enter_or_raise(Cause::Sleep, State::On, Cause::Activity),
             State::Suspend | State::Off => {}
-        }
-    }
-
-    // Activity in Doze or Sleep: On where the cause that led there is masked, else an interrupt.
-    fn leave_idle(&mut self, led_here: Cause)
-        requires { asleep self.old.state ≡ false }
-        ensures { view self.new ≡ stirred (position led_here) (view self.old) }
-    {
-        if bit(led_here.position(), self.get(Register::Mask)) {
-            self.enter(State::On);
-        } else {
-            self.raise(Cause::Activity);
         }
     }
 

@@ -134,11 +134,9 @@ impl PowerUnit {
     pub(crate) fn reload(&mut self)
         ensures { view self.new ≡ reloaded (view self.old) }
     {
-        let load = match self.state {
-            State::On => self.get(Register::DozeLoad),
-            State::Doze => self.get(Register::SleepLoad),
-            State::Sleep => self.get(Register::SuspendLoad),
-            State::Suspend | State::Off => 0,
+        let load = match self.state.load() {
+            Some(register) => self.get(register),
+            None => 0,
         };
         self.idle = TICKS_PER_LOAD * u16::from(load);
     }

@@ -1,5 +1,5 @@
 -- The five states, and what each is known by.
-use Rattle.std.specs.Prelude.{ℕ, ◌*◌, Bool, true, false, cond, ◌==◌}
+use Rattle.std.specs.Prelude.{ℕ, ◌*◌, Bool, true, false, cond, Some, None, Option, ◌==◌}
 use Rattle.registers.specs.declared.state.State.{State}
 use Rattle.registers.specs.declared.state.State.TheVariants.{On, Doze, Sleep, Suspend, Off}
 
@@ -38,7 +38,15 @@ idle_in Sleep table = 32 * table 0x03
 idle_in Suspend table = 0
 idle_in Off table = 0
 
--- the register that holds a state's load; Suspend and Off have none
+-- the index of the register that holds a state's load; Suspend and Off have none
+abbrev pub load_index : State → Option ℕ
+load_index On = Some 0x01
+load_index Doze = Some 0x02
+load_index Sleep = Some 0x03
+load_index Suspend = None
+load_index Off = None
+
+-- whether a register of that index does
 abbrev pub is_load : State → ℕ → Bool
 is_load On i = i == 0x01
 is_load Doze i = i == 0x02

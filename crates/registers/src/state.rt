@@ -1,6 +1,7 @@
 // The states of the machine's power. On, Doze and Sleep are awake.
 ghost use Rattle.std.specs.Prelude.{◌≡◌, if◌then◌else◌, Ok, Err, nat_lt};
-ghost use Rattle.registers.specs.States.{state_number, state_of, asleep, is_load};
+ghost use Rattle.std.specs.Option.{option_map};
+ghost use Rattle.registers.specs.States.{state_number, state_of, asleep, load_index, is_load};
 ghost use Rattle.registers.specs.Registers.{index};
 ghost use Rattle.terms.specs.declared.refusal.Refusal.TheVariants.{ValueTooLarge};
 
@@ -51,15 +52,22 @@ impl State {
         }
     }
 
+    // The register that holds this state's load; Suspend and Off have none.
+    pub fn load(self) -> Option<Register>
+        ensures { option_map index result ≡ load_index self }
+    {
+        match self {
+            State::On => Some(Register::DozeLoad),
+            State::Doze => Some(Register::SleepLoad),
+            State::Sleep => Some(Register::SuspendLoad),
+            State::Suspend | State::Off => None,
+        }
+    }
+
     // Whether the register holds this state's load.
     pub fn has_load(self, register: Register) -> bool
         ensures { result ≡ is_load self (index register) }
     {
-        match (self, register) {
-            (State::On, Register::DozeLoad)
-            | (State::Doze, Register::SleepLoad)
-            | (State::Sleep, Register::SuspendLoad) => true,
-            (_, _) => false,
-        }
+        self.load() == Some(register)
     }
 }

@@ -27,7 +27,4 @@ pub trait Device {
     // The power is lost: volatile places turn to FFh.
     fn lose_power(&mut self)
         ensures { meaning self.new ≡ faded (meaning self.old) };
-
-    // No device has more places than a `Place` can name, also where nobody asks for its size.
-    ghost bounded: { (device : Self) → (meaning device).size ≤ places };
 }

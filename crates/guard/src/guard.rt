@@ -92,8 +92,6 @@ impl<D: Device> Guard<D> {
 impl<D: Device> Device for Guard<D> {
     ghost meaning = { λ g. guarded g.segments g.flags (D.Device.meaning g.device) };
 
-    ghost bounded = { λ g. D.Device.bounded g.device };
-
     fn size(&self) -> u32 {
         self.device.size()
     }

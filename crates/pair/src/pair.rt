@@ -1,6 +1,5 @@
 // Two devices side by side.
 ghost use Rattle.std.specs.Prelude.{◌≡◌, ◌≤◌};
-ghost use Rattle.std.proofs.Common.{rules};
 ghost use Rattle.pair.specs.Pair.{paired, Lies};
 ghost use Rattle.terms.specs.Limits.{places};
 
@@ -63,8 +62,6 @@ impl<E: Device, O: Device> Pair<E, O> {
 
 impl<E: Device, O: Device> Device for Pair<E, O> {
     ghost meaning = { λ p. paired (E.Device.meaning p.even) (O.Device.meaning p.odd) };
-
-    ghost bounded = { λ p. Prim.search rules };
 
     fn size(&self) -> u32 {
         self.places()

@@ -1,6 +1,5 @@
 // RAM over the caller's bytes, with or without a battery: every place can be written.
 ghost use Rattle.std.specs.Prelude.{◌≡◌, true, length, take, slice_set};
-ghost use Rattle.std.proofs.Common.{rules};
 ghost use Rattle.ram.specs.Image.{load_at, loaded};
 ghost use Rattle.device.specs.Kinds.{backed, uniform};
 ghost use Rattle.device.specs.Meaning.{write_at};
@@ -57,8 +56,6 @@ impl<'a, const BACKED: bool> Chip<'a, BACKED> {
 
 impl<const BACKED: bool> Device for Chip<'_, BACKED> {
     ghost meaning = { λ ram. uniform true BACKED ram.bytes.now };
-
-    ghost bounded = { λ ram. Prim.search rules };
 
     fn size(&self) -> u32 {
         bytes::size(self.bytes)

@@ -1,5 +1,4 @@
 // An empty socket: a device with no places.
-ghost use Rattle.std.proofs.Common.{rules};
 ghost use Rattle.device.specs.Kinds.{empty};
 
 use device::Device;
@@ -10,8 +9,6 @@ pub struct Empty;
 
 impl Device for Empty {
     ghost meaning = { λ _. empty };
-
-    ghost bounded = { λ _. Prim.search rules };
 
     fn size(&self) -> u32 {
         0

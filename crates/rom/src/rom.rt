@@ -1,6 +1,5 @@
 // ROM over the caller's bytes: no place can be written, and every place keeps its byte without power.
 ghost use Rattle.std.specs.Prelude.{◌≡◌, take};
-ghost use Rattle.std.proofs.Common.{rules};
 ghost use Rattle.device.specs.Kinds.{read_only};
 ghost use Rattle.terms.specs.Limits.{places};
 
@@ -34,8 +33,6 @@ impl<'a> Rom<'a> {
 
 impl Device for Rom<'_> {
     ghost meaning = { λ rom. read_only rom.bytes.now };
-
-    ghost bounded = { λ rom. Prim.search rules };
 
     fn size(&self) -> u32 {
         bytes::size(self.bytes)

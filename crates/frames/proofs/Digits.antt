@@ -1,11 +1,11 @@
 -- The steps of the proofs on a line's digits.
-use Rattle.std.proofs.Common.{◌≡◌, ℕ, ◌+◌, ◌*◌, Bool, true, false, cond, ◌&&◌, eqb, [], ◌∷◌, length, get_or, Some, None, Option, Ok, Err, Result, refl, ap, ◌∙◌, sym, arith}
+use Rattle.std.proofs.Common.{◌≡◌, ℕ, ◌+◌, ◌*◌, Bool, true, false, cond, ◌&&◌, [], ◌∷◌, length, get_or, Some, None, Option, Ok, Err, Result, refl, ap, ◌∙◌, sym, arith}
 use Rattle.std.proofs.lemmas.Bool.{cond-true, cond-false}
 use Rattle.std.specs.Option.{ok_or}
 use Rattle.std.proofs.lemmas.Bool.Decides.{nat_tests}
 use Rattle.terms.specs.declared.refusal.Refusal.{Refusal}
 use Rattle.terms.specs.declared.refusal.Refusal.TheVariants as refusal
-use Rattle.frames.specs.Lines.{Line, digit, is_digit, all_digits, is_frame, kind_field, a_field, v_field}
+use Rattle.frames.specs.Lines.{Line, digit, is_digit, is_frame, kind_field, a_field, v_field}
 use Rattle.frames.specs.Kinds.{kind_of}
 use Rattle.frames.specs.Decode.{Frame, checked, listed, decoded}
 use Rattle.frames.specs.Frames.{fields_of}

@@ -36,7 +36,7 @@ impl Answer {
 
     // Number, value read, state, outputs, NMI, and the end of the line. No `Display`: the contract names each byte, and an
     // answer is written without a formatter.
-    pub fn spell(&self) -> [u8; 13]
+    pub fn spell(&self) -> [u8; ANSWER_LENGTH]
         ensures { result ≡ spelled self.now }
     {
         let value = self.value();

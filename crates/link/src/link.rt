@@ -1,4 +1,6 @@
 // A link holds an engine and what has come of the line that has not ended.
+ghost use Rattle.std.specs.Prelude.{◌≤◌, length};
+
 use super::held::Held;
 use machine::Engine;
 
@@ -6,4 +8,5 @@ use machine::Engine;
 pub struct Link<S> {
     pub(crate) engine: Engine<S>,
     pub(crate) held: Held,
+    ghost few: { length held ≤ 13 },
 }

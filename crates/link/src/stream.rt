@@ -16,7 +16,7 @@ use frames::{ANSWER_LENGTH, Answer};
 use machine::{Engine, Sockets};
 
 // How many bytes of the chunk were taken, and how many were written.
-#[derive(Clone, Copy)]
+#[derive(Clone, Copy, Debug, PartialEq, Eq)]
 pub struct Progress {
     pub read: usize,
     pub written: usize,

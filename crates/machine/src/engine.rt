@@ -197,10 +197,7 @@ impl<S: Sockets> Engine<S> {
     fn read_at(&self, address: CpuAddress) -> Result<u8, Refusal>
         ensures { result ≡ cpu_read (view S.meaning self.now) address.bits }
     {
-        let at = self
-            .pages
-            .translate(address)
-            .ok_or(Refusal::PageNotMapped)?;
+        let at = self.pages.translate(address).ok_or(Refusal::PageNotMapped)?;
         if !self.powers(at.socket) {
             return Err(Refusal::SocketUnpowered);
         }
@@ -212,10 +209,7 @@ impl<S: Sockets> Engine<S> {
         ensures outcome { result ≡ cpu_write (view S.meaning self.old) address.bits }
         ensures after { view S.meaning self.new ≡ written_target (view S.meaning self.old) (leads (words self.old.pages) address.bits) value }
     {
-        let at = self
-            .pages
-            .translate(address)
-            .ok_or(Refusal::PageNotMapped)?;
+        let at = self.pages.translate(address).ok_or(Refusal::PageNotMapped)?;
         if at.readonly {
             return Err(Refusal::PageReadOnly);
         }

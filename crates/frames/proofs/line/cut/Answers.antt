@@ -1,4 +1,4 @@
-use Rattle.std.proofs.Common.{arith, rules}
+use Rattle.std.proofs.Common.{rules}
 use Rattle.frames.proofs.Digits.{second_is_none, third_is_none, last_is_none, whole}
 use Rattle.frames.proofs.line.cut.Goals as goal
 

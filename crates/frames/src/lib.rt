@@ -9,4 +9,4 @@ mod line;
 pub use answer::{ANSWER_LENGTH, Answer};
 pub use command::Command;
 pub use kind::Kind;
-pub use line::{Fields, cut, decode, interpret};
+pub use line::{FRAME_LENGTH, Fields, cut, decode, interpret};

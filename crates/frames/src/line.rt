@@ -10,6 +10,9 @@ use super::{Command, Kind};
 use registers::{Event, Register, Source};
 use terms::{CpuAddress, CpuPage, Refusal};
 
+// The digits of a frame: two of kind, six of a, four of v.
+pub const FRAME_LENGTH: usize = 12;
+
 // The three numbers of a frame, as the digits spell them: the first need not be that of a kind.
 #[derive(Clone, Copy, Debug, PartialEq, Eq)]
 pub struct Fields {

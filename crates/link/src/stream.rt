@@ -12,7 +12,7 @@ ghost use Rattle.link.specs.View.{held};
 
 use super::Link;
 use super::held::Held;
-use frames::{ANSWER_LENGTH, Answer};
+use frames::{ANSWER_LENGTH, Answer, FRAME_LENGTH};
 use machine::{Engine, Sockets};
 
 // How many bytes of the chunk were taken, and how many were written.
@@ -112,7 +112,7 @@ impl<S: Sockets> Link<S> {
     {
         match self.whole_frame(rest) {
             Some(answer) => Advance {
-                taken: 13,
+                taken: FRAME_LENGTH + 1,
                 answer: Some(answer),
             },
             None => Advance {
@@ -126,8 +126,8 @@ impl<S: Sockets> Link<S> {
     fn whole_frame(&mut self, rest: &[u8]) -> Option<Answer>
         ensures { MatchOption result ((view S.meaning self.new.engine ≡ view S.meaning self.old.engine) × (held self.new ≡ held self.old)) (λ a. (13 ≤ length rest.now) × GoesOn (view S.meaning self.old.engine) (held self.old) (view S.meaning self.new.engine) (held self.new) (take 13 rest.now) (spelled a)) }
     {
-        if self.held.is_empty() && rest.len() > 12 && rest[12] == b'\n' {
-            self.engine.frame_of_digits(&rest[0..12])
+        if self.held.is_empty() && rest.get(FRAME_LENGTH) == Some(&b'\n') {
+            self.engine.frame_of_digits(&rest[0..FRAME_LENGTH])
         } else {
             None
         }

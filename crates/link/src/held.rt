@@ -3,11 +3,15 @@ ghost use Rattle.std.specs.Prelude.{◌≡◌, ◌++◌, [], ◌∷◌, ◌==◌
 
 use std::marker::Model;
 
+// One byte more than a frame has.
+const ROOM: usize = 13;
+
 // The first bytes of a line: one of more than twelve is no frame, whatever follows, so thirteen tell all.
-// An array with a length, and no `Vec`, since a link needs no heap; its model is the bytes alone.
+// An array with a length, and no `Vec`, since a link needs no heap, and no crate of the kit stands below the programs; its
+// model is the bytes alone.
 #[derive(Drop)]
 pub(crate) struct Held {
-    bytes: [u8; 13],
+    bytes: [u8; ROOM],
     len: usize,
 }
 
@@ -26,7 +30,7 @@ impl Held {
         ensures { result ≡ [] }
     {
         Held {
-            bytes: [0; 13],
+            bytes: [0; ROOM],
             len: 0,
         }
     }
@@ -47,7 +51,7 @@ impl Held {
     pub(crate) fn push(&mut self, b: u8)
         ensures { self.new ≡ take 13 (self.old ++ b ∷ []) }
     {
-        if self.len < 13 {
+        if self.len < ROOM {
             self.bytes[self.len] = b;
             self.len += 1;
         }

@@ -52,7 +52,7 @@ impl TryFrom<u32> for Kind {
 }
 
 impl Kind {
-    // The largest a; 0 where the field is unused.
+    // The largest a; 0 where the field is unused, as the rules have it: an unused field holds 0.
     pub(crate) fn a_top(self) -> u32
         ensures { result ≡ a_top self }
     {

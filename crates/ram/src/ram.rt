@@ -80,7 +80,8 @@ impl<const BACKED: bool> Device for Chip<'_, BACKED> {
     }
 }
 
-// Writes a byte of a chip whose places are all writable.
+// Writes a byte of a chip, all of whose places can be written. A function of its own, told of the bytes, since here no
+// battery matters.
 fn write(bytes: &mut [u8], place: Place, value: u8) -> Result<(), Fault>
     ensures answer { result ≡ write_at (backed bytes.old) place.index }
     ensures after { bytes.new ≡ slice_set bytes.old place.index value }

@@ -1,4 +1,4 @@
-// Cases worked out by hand from the rules, held to the engine on the board that the program runs on.
+// Cases worked out by hand from the rules, for the engine on the program's board, for stacks of devices and for page words.
 #![tactic(auto)]
 
 #[cfg(test)]

@@ -11,7 +11,7 @@ use pair::Pair;
 use ram::{BackedRam, Ram};
 use rom::{Empty, Rom};
 use std::alloc::{AllocError, Global};
-use std::fmt;
+use std::{array, fmt};
 
 // The most chips, and the most guards, that a board has.
 const CHIPS: usize = 6;
@@ -94,22 +94,19 @@ impl Setup {
     // Each shape has its turn. All but the program's board have other sizes and flags each time.
     pub fn drawn(list: usize) -> Setup {
         let shape = SHAPES[list % SHAPES.len()];
-        let mut setup = Setup {
-            shape,
-            sizes: [PROGRAM_CHIP; CHIPS],
-            guards: [FIRST_SEGMENT; GUARDS],
-        };
         if shape == Shape::Program {
-            return setup;
+            return Setup {
+                shape,
+                sizes: [PROGRAM_CHIP; CHIPS],
+                guards: [FIRST_SEGMENT; GUARDS],
+            };
         }
         let mut random = Random::new(list as u64);
-        for size in setup.sizes.iter_mut() {
-            *size = random.pick(&pools::CHIP_SIZES);
+        Setup {
+            shape,
+            sizes: array::from_fn(|_| random.pick(&pools::CHIP_SIZES)),
+            guards: array::from_fn(|_| Protection::drawn(&mut random)),
         }
-        for guard in setup.guards.iter_mut() {
-            *guard = Protection::drawn(&mut random);
-        }
-        setup
     }
 
     pub fn describe(&self, heap: Global) -> Result<Board, AllocError> {
@@ -131,9 +128,9 @@ pub fn build_program(mut bench: Bench<'_>) -> Program<'_> {
     assemble(even, odd, rom, card).into_engine()
 }
 
-impl fmt::Display for Setup {
+impl fmt::Display for Shape {
     fn fmt<W: fmt::Write>(&self, f: &mut fmt::Formatter<W>) -> fmt::Result {
-        f.write_str(match self.shape {
+        f.write_str(match self {
             Shape::Program => "the program's board",
             Shape::GuardOverPair => "a guard over a pair",
             Shape::DeepStack => "a stack of four layers",

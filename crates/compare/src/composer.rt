@@ -216,6 +216,7 @@ impl Composer {
     }
 
     // What may set the idle counter, stop it, let it go on, or change what follows when it runs out.
+    // By a number: the steps are few, each as likely as another, and named where they stand.
     fn meddle(&mut self) {
         match self.random.below(5) {
             0 => {
@@ -293,6 +294,7 @@ impl Composer {
         self.enter(state);
     }
 
+    // By a number: the steps are few, each as likely as another, and named where they stand.
     fn wake(&mut self) {
         match self.random.below(3) {
             0 => self.rings(),

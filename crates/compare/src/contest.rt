@@ -21,18 +21,17 @@ pub struct Trial<'a, F> {
 
 // What one implementation made of a list.
 #[derive(Drop)]
-pub struct Side {
-    pub replies: Vec<Reply>,
+pub struct Side<A> {
+    // One for each line.
+    pub answers: Vec<A>,
     // The chips' bytes at the end.
     bytes: Vec<u8>,
 }
 
 #[derive(Drop)]
 pub struct Outcome {
-    pub engine: Side,
-    pub second: Side,
-    // What the second implementation made of each line.
-    pub verdicts: Vec<Verdict>,
+    pub engine: Side<Reply>,
+    pub second: Side<Verdict>,
 }
 
 // Two values that should be one, and where they are.
@@ -56,24 +55,17 @@ impl<F: Fault> Trial<'_, F> {
         let first = first_bytes(heap, board.bytes, self.list)?;
 
         let mut bytes = first.clone()?;
-        let replies = self.engine_replies(heap, bytes.as_mut_slice())?;
-        let engine = Side { replies, bytes };
+        let answers = self.engine_replies(heap, bytes.as_mut_slice())?;
+        let engine = Side { answers, bytes };
 
         let mut second = Second::new(heap, &board, first.as_slice());
-        let mut replies = Vec::with_capacity(heap, self.lines.len())?;
-        let mut verdicts = Vec::with_capacity(heap, self.lines.len())?;
+        let mut answers = Vec::with_capacity(heap, self.lines.len())?;
         for line in self.lines {
-            let verdict = second.answer(line.bytes())?;
-            replies.push(Reply::of_verdict(&verdict))?;
-            verdicts.push(verdict)?;
+            answers.push(second.answer(line.bytes())?)?;
         }
         let bytes = second.bytes(heap)?;
-        let second = Side { replies, bytes };
-        Ok(Outcome {
-            engine,
-            second,
-            verdicts,
-        })
+        let second = Side { answers, bytes };
+        Ok(Outcome { engine, second })
     }
 
     fn engine_replies(&self, heap: Global, bytes: &mut [u8]) -> Result<Vec<Reply>, AllocError> {
@@ -96,7 +88,7 @@ impl<F: Fault> Trial<'_, F> {
         let mut replies = Vec::with_capacity(heap, self.lines.len())?;
         for line in self.lines {
             let answer = fault.answer(line.bytes(), |line| engine.frame(line));
-            replies.push(Reply::of_answer(&answer))?;
+            replies.push(Reply::from(answer))?;
         }
         Ok(replies)
     }
@@ -104,24 +96,28 @@ impl<F: Fault> Trial<'_, F> {
 
 impl Outcome {
     pub fn difference(&self) -> Option<Difference> {
-        let Outcome { engine, second, .. } = self;
-        first_mismatch(&engine.replies, &second.replies)
+        let Outcome { engine, second } = self;
+        first_mismatch(&engine.answers, &second.answers)
             .map(Difference::Answer)
             .or_else(|| first_mismatch(&engine.bytes, &second.bytes).map(Difference::Byte))
     }
 }
 
-fn first_mismatch<T: Copy + PartialEq>(engine: &[T], second: &[T]) -> Option<Mismatch<T>> {
+// The second's values are compared as what they are for the engine.
+fn first_mismatch<T: Copy + PartialEq + From<U>, U: Copy>(
+    engine: &[T],
+    second: &[U],
+) -> Option<Mismatch<T>> {
     engine
         .iter()
         .zip(second)
         .enumerate()
-        .find(|(_, (one, other))| one != other)
         .map(|(at, (one, other))| Mismatch {
             at,
             engine: *one,
-            second: *other,
+            second: T::from(*other),
         })
+        .find(|mismatch| mismatch.engine != mismatch.second)
 }
 
 impl fmt::Display for Difference {

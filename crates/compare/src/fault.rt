@@ -1,7 +1,7 @@
 // The engine as it is compared: as it is, or with a fault put in to see that the comparison notices it.
 use crate::line::FRAME_LENGTH;
-use frames::Answer;
-use registers::State;
+use frames::{Answer, Command, decode};
+use registers::{Register, State};
 use std::fmt;
 
 // What stands between the lines and the engine. `ask` has the engine answer a line.
@@ -81,7 +81,7 @@ impl Fault for CauseKept {
     fn answer<F: FnOnce(&[u8]) -> Answer>(&mut self, line: &[u8], ask: F) -> Answer {
         let answer = ask(line);
         match answer.outcome {
-            Ok(causes) if line == b"020000050000".as_slice() => {
+            Ok(causes) if decode(line) == Ok(Command::RegisterRead(Register::Cause)) => {
                 let shown = causes | self.causes;
                 self.causes = causes;
                 Answer {
@@ -100,16 +100,13 @@ impl fmt::Display for CauseKept {
     }
 }
 
-// A CPU write with another last digit. Whether it is taken does not depend on that digit.
+// The line with another last digit, where it is a CPU write. Whether that is taken does not depend on the digit.
 fn with_another_value(line: &[u8]) -> Option<[u8; FRAME_LENGTH]> {
-    let mut changed = <[u8; FRAME_LENGTH]>::try_from(line).ok()?;
-    let [b'0', b'5', .., last] = &mut changed else {
+    if !matches!(decode(line), Ok(Command::CpuWrite(..))) {
         return None;
-    };
-    *last = match *last {
-        b'1'..=b'9' | b'A'..=b'F' => b'0',
-        b'0' => b'1',
-        _ => return None,
-    };
+    }
+    let mut changed = <[u8; FRAME_LENGTH]>::try_from(line).ok()?;
+    let [.., last] = &mut changed;
+    *last = if *last == b'0' { b'1' } else { b'0' };
     Some(changed)
 }

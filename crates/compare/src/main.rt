@@ -96,7 +96,7 @@ fn find_difference<F: Fault, A: FnMut(&[Verdict])>(
             tell(rt, &trial, difference)?;
             return Ok(true);
         }
-        agreed(outcome.verdicts.as_slice());
+        agreed(outcome.second.answers.as_slice());
     }
     Ok(false)
 }

@@ -6,10 +6,10 @@ use crate::second::stack::{Chip, ChipKind, Layer};
 use device::Device;
 use guard::{Guard, SegmentSize};
 use pair::Pair;
-use ram::{BackedRam, Ram};
+use ram::Chip as RamChip;
 use rom::{Empty, Rom};
 use std::alloc::{AllocError, Global};
-use std::slice;
+use std::{array, slice};
 
 // What a guard write-protects: the segments of these numbers.
 #[derive(Clone, Copy)]
@@ -25,10 +25,7 @@ impl Protection {
         } else {
             SegmentSize::Places4096
         };
-        let mut flags = [0; 4];
-        for flag in flags.iter_mut() {
-            *flag = random.pick(&pools::FLAGS);
-        }
+        let flags = array::from_fn(|_| random.pick(&pools::FLAGS));
         Protection { segments, flags }
     }
 }
@@ -101,23 +98,18 @@ pub trait Part<'a>: Device + Drop {
     fn describe(heap: Global, stock: &mut Stock) -> Result<Layer, AllocError>;
 }
 
-impl<'a> Part<'a> for Ram<'a> {
-    fn build(bench: &mut Bench<'a>) -> Ram<'a> {
-        Ram::new(bench.take_chip())
+impl<'a, const BACKED: bool> Part<'a> for RamChip<'a, BACKED> {
+    fn build(bench: &mut Bench<'a>) -> RamChip<'a, BACKED> {
+        RamChip::new(bench.take_chip())
     }
 
     fn describe(_heap: Global, stock: &mut Stock) -> Result<Layer, AllocError> {
-        Ok(Layer::Chip(stock.take_chip(ChipKind::Ram)))
-    }
-}
-
-impl<'a> Part<'a> for BackedRam<'a> {
-    fn build(bench: &mut Bench<'a>) -> BackedRam<'a> {
-        BackedRam::new(bench.take_chip())
-    }
-
-    fn describe(_heap: Global, stock: &mut Stock) -> Result<Layer, AllocError> {
-        Ok(Layer::Chip(stock.take_chip(ChipKind::BackedRam)))
+        let kind = if BACKED {
+            ChipKind::BackedRam
+        } else {
+            ChipKind::Ram
+        };
+        Ok(Layer::Chip(stock.take_chip(kind)))
     }
 }
 
@@ -156,13 +148,9 @@ impl<'a, D: Part<'a>> Part<'a> for Guard<D> {
     fn describe(heap: Global, stock: &mut Stock) -> Result<Layer, AllocError> {
         let below = Box::new(heap, D::describe(heap, stock)?)?;
         let Protection { segments, flags } = stock.take_protection();
-        let segment = match segments {
-            SegmentSize::Places2048 => 2_048,
-            SegmentSize::Places4096 => 4_096,
-        };
         Ok(Layer::Guard {
             below,
-            segment,
+            segment: segments as usize,
             flags,
         })
     }

@@ -12,7 +12,7 @@ impl Random {
     }
 
     // SplitMix64: a step by an odd constant, then a mix of its bits.
-    pub fn number(&mut self) -> u64 {
+    fn number(&mut self) -> u64 {
         self.state = self.state.wrapping_add(0x9E37_79B9_7F4A_7C15);
         let x = self.state;
         let x = (x ^ (x >> 30)).wrapping_mul(0xBF58_476D_1CE4_E5B9);

@@ -18,14 +18,18 @@ impl Reply {
         let digits = text.first_chunk().copied().unwrap_or([b' '; DIGITS]);
         Reply { digits }
     }
+}
 
-    // The engine's, without the end of the line.
-    pub fn of_answer(answer: &Answer) -> Reply {
+// The engine's, without the end of the line.
+impl From<Answer> for Reply {
+    fn from(answer: Answer) -> Reply {
         Reply::new(&answer.spell())
     }
+}
 
-    // The second implementation's.
-    pub fn of_verdict(verdict: &Verdict) -> Reply {
+// The second implementation's.
+impl From<Verdict> for Reply {
+    fn from(verdict: Verdict) -> Reply {
         let mut text = Line::empty();
         // There is room, so nothing is left out.
         let _ = write!(text, "{verdict}");

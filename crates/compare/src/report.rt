@@ -1,6 +1,7 @@
 // A difference told in plain text: where it is, and the shortest list that shows it.
 use crate::contest::{Difference, Trial};
 use crate::fault::Fault;
+use crate::reply::Reply;
 use crate::shrink::shrink;
 
 pub fn tell<F: Fault>(
@@ -9,8 +10,9 @@ pub fn tell<F: Fault>(
     difference: Difference,
 ) -> anyhow::Result<()> {
     let Trial { setup, list, .. } = trial;
+    let shape = setup.shape;
     let count = trial.lines.len();
-    println!(rt; "List {list} of {count} lines, on {setup}:")?;
+    println!(rt; "List {list} of {count} lines, on {shape}:")?;
     println!(rt; "  {difference}")?;
     let shortest = shrink(rt.alloc(), trial)?;
     let trial = Trial {
@@ -19,9 +21,10 @@ pub fn tell<F: Fault>(
     };
     let outcome = trial.run(rt.alloc())?;
     println!(rt; "The shortest list, with the answers of the engine and of the second:")?;
-    let replies = outcome.engine.replies.iter().zip(&outcome.second.replies);
-    for (line, (engine, second)) in trial.lines.iter().zip(replies) {
-        let mark = if engine == second { "" } else { "  <-" };
+    let answers = outcome.engine.answers.iter().zip(&outcome.second.answers);
+    for (line, (engine, verdict)) in trial.lines.iter().zip(answers) {
+        let second = Reply::from(*verdict);
+        let mark = if *engine == second { "" } else { "  <-" };
         println!(rt; "  {line}  {engine}  {second}{mark}")?;
     }
     if let Some(difference) = outcome.difference() {

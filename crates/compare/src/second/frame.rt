@@ -1,5 +1,6 @@
 // What a line of input says, before anything is known of the engine.
 use crate::second::refusal::Refusal;
+use crate::second::words::Register;
 
 #[derive(Clone, Copy, PartialEq, Eq)]
 pub enum Kind {
@@ -26,8 +27,6 @@ pub struct Frame {
     pub v: u32,
 }
 
-const DIGITS: usize = 12;
-
 const LARGEST_INDEX: u32 = 0x0f;
 
 const LARGEST_PAGE: u32 = 0x3f;
@@ -43,8 +42,6 @@ const LARGEST_BYTE: u32 = 0xff;
 const LARGEST_WORD: u32 = 0xffff;
 
 const LARGEST_LEVEL: u32 = 1;
-
-const STATE_INDEX: u32 = 0;
 
 impl TryFrom<u32> for Kind {
     type Error = Refusal;
@@ -107,7 +104,7 @@ impl Frame {
     // The largest v; None where the kind does not use it.
     fn largest_v(self) -> Option<u32> {
         match self.kind {
-            Kind::RegisterWrite if self.a == STATE_INDEX => Some(LARGEST_STATE),
+            Kind::RegisterWrite if self.a == Register::State as u32 => Some(LARGEST_STATE),
             Kind::RegisterWrite | Kind::CpuWrite => Some(LARGEST_BYTE),
             Kind::PageWrite => Some(LARGEST_WORD),
             Kind::Ext | Kind::Ring | Kind::Battery | Kind::Ac => Some(LARGEST_LEVEL),
@@ -134,13 +131,12 @@ impl Frame {
 
 // The kind's number, a and v; None where the line is no frame.
 fn fields_of(line: &[u8]) -> Option<(u32, u32, u32)> {
-    if line.len() != DIGITS {
+    let (number, rest) = line.split_first_chunk::<2>()?;
+    let (a, rest) = rest.split_first_chunk::<6>()?;
+    let (v, []) = rest.split_first_chunk::<4>()? else {
         return None;
-    }
-    let number = number_of(&line[0..2])?;
-    let a = number_of(&line[2..8])?;
-    let v = number_of(&line[8..12])?;
-    Some((number, a, v))
+    };
+    Some((number_of(number)?, number_of(a)?, number_of(v)?))
 }
 
 // The number that at most eight digits spell, the highest first; None where one is no digit.

@@ -12,13 +12,13 @@ pub enum State {
 
 #[derive(Clone, Copy, PartialEq, Eq)]
 pub enum Cause {
-    Doze,
-    Sleep,
-    Suspend,
-    Ext,
-    Battery,
-    Violation,
-    Activity,
+    Doze = 0x01,
+    Sleep = 0x02,
+    Suspend = 0x04,
+    Ext = 0x08,
+    Battery = 0x10,
+    Violation = 0x20,
+    Activity = 0x40,
 }
 
 #[derive(Clone, Copy, PartialEq, Eq)]
@@ -99,15 +99,7 @@ impl State {
 impl Cause {
     // The cause's bit in CAUSE and in MASK.
     pub fn bit(self) -> u8 {
-        match self {
-            Cause::Doze => 0x01,
-            Cause::Sleep => 0x02,
-            Cause::Suspend => 0x04,
-            Cause::Ext => 0x08,
-            Cause::Battery => 0x10,
-            Cause::Violation => 0x20,
-            Cause::Activity => 0x40,
-        }
+        self as u8
     }
 }
 

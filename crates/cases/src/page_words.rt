@@ -4,83 +4,19 @@ use std::process::Abort;
 use std::test::*;
 use terms::Refusal;
 
-// A word, and its parts.
+// A word, and its parts: mapped, read-only, socket, device page. Not a `PageParts`, so that a row is a line.
 #[derive(Clone, Copy)]
-struct Split(u16, PageParts);
+struct Split(u16, bool, bool, u8, u16);
 
 static WORDS: [Split; 8] = [
-    Split(
-        0x0000,
-        PageParts {
-            mapped: false,
-            readonly: false,
-            socket: 0,
-            page: 0x000,
-        },
-    ),
-    Split(
-        0x802A,
-        PageParts {
-            mapped: true,
-            readonly: false,
-            socket: 0,
-            page: 0x02A,
-        },
-    ),
-    Split(
-        0xD000,
-        PageParts {
-            mapped: true,
-            readonly: true,
-            socket: 1,
-            page: 0x000,
-        },
-    ),
-    Split(
-        0xAFFF,
-        PageParts {
-            mapped: true,
-            readonly: false,
-            socket: 2,
-            page: 0xFFF,
-        },
-    ),
-    Split(
-        0xB800,
-        PageParts {
-            mapped: true,
-            readonly: false,
-            socket: 3,
-            page: 0x800,
-        },
-    ),
-    Split(
-        0x4001,
-        PageParts {
-            mapped: false,
-            readonly: true,
-            socket: 0,
-            page: 0x001,
-        },
-    ),
-    Split(
-        0x7FFF,
-        PageParts {
-            mapped: false,
-            readonly: true,
-            socket: 3,
-            page: 0xFFF,
-        },
-    ),
-    Split(
-        0xFFFF,
-        PageParts {
-            mapped: true,
-            readonly: true,
-            socket: 3,
-            page: 0xFFF,
-        },
-    ),
+    Split(0x0000, false, false, 0, 0x000),
+    Split(0x802A, true, false, 0, 0x02A),
+    Split(0xD000, true, true, 1, 0x000),
+    Split(0xAFFF, true, false, 2, 0xFFF),
+    Split(0xB800, true, false, 3, 0x800),
+    Split(0x4001, false, true, 0, 0x001),
+    Split(0x7FFF, false, true, 3, 0xFFF),
+    Split(0xFFFF, true, true, 3, 0xFFF),
 ];
 
 #[test]
@@ -92,7 +28,13 @@ fn a_word_and_its_parts_are_one_for_one(rt: HostRuntime) -> Result<(), Fail> {
 }
 
 fn check_word(rt: &impl Abort, expected: Split) -> Result<(), Fail> {
-    let Split(word, parts) = expected;
+    let Split(word, mapped, readonly, socket, page) = expected;
+    let parts = PageParts {
+        mapped,
+        readonly,
+        socket,
+        page,
+    };
     assert_eq!(rt; split(word), parts, "{word}");
     assert_eq!(rt; join(parts), Ok(word), "{word}");
     Ok(())

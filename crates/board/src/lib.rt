@@ -3,4 +3,4 @@
 
 mod memory;
 
-pub use memory::{BoardDevices, BoardLink, Memory, assemble, burn};
+pub use memory::{BoardDevices, BoardLink, CHIP, Memory, assemble, burn};

@@ -14,7 +14,7 @@ use rom::{Empty, Rom};
 use std::alloc::{AllocError, Global};
 
 // The size of each of the two RAM chips, of the ROM and of card A.
-const CHIP: usize = 16_384;
+pub const CHIP: usize = 16_384;
 
 // The bytes behind the board's devices.
 #[derive(Drop)]
@@ -56,7 +56,8 @@ impl Memory {
     }
 }
 
-// A new engine on the board, over the bytes of its chips.
+// A new engine on the board, over the bytes of its chips. Four parameters and no struct: the chips stand apart in whoever
+// has them, and are named at each call.
 pub fn assemble<'a>(
     even: &'a mut [u8],
     odd: &'a mut [u8],

@@ -1,15 +1,12 @@
 // A trial on the board that the program runs on.
 ghost use Rattle.std.specs.Prelude.{◌≤◌, length};
 
-use board::{assemble, burn};
+use board::{CHIP, assemble, burn};
 use frames::ANSWER_LENGTH;
 use link::Link;
 use machine::Sockets;
 use std::process::Abort;
 use std::test::*;
-
-// The size of each of the two RAM chips, of the ROM and of card A.
-const CHIP: usize = 16_384;
 
 // A link to an engine, whose devices are out of sight.
 pub trait Answers {
@@ -31,7 +28,7 @@ impl<S: Sockets> Answers for Link<S> {
     }
 }
 
-// What is tried on a link.
+// What is tried on a link. A trait, since a closure cannot take any `Answers`.
 pub trait Trial {
     fn run(self, rt: &impl Abort, link: &mut impl Answers) -> Result<(), Fail>;
 }

@@ -4,7 +4,7 @@ use crate::parts::{Bench, FIRST_SEGMENT, Part, Protection, Stock};
 use crate::pools;
 use crate::random::Random;
 use crate::second::stack::Board;
-use board::{BoardDevices, assemble};
+use board::{BoardDevices, CHIP, assemble};
 use guard::Guard;
 use machine::{Devices, Engine};
 use pair::Pair;
@@ -46,8 +46,6 @@ pub type DeepStack<'a> = Engine<
         Empty,
     >,
 >;
-
-const PROGRAM_CHIP: usize = 16_384;
 
 // A board: its shape, the sizes of its chips and what its guards protect, as many as the shape has.
 #[derive(Clone, Copy)]
@@ -97,7 +95,7 @@ impl Setup {
         if shape == Shape::Program {
             return Setup {
                 shape,
-                sizes: [PROGRAM_CHIP; CHIPS],
+                sizes: [CHIP; CHIPS],
                 guards: [FIRST_SEGMENT; GUARDS],
             };
         }

@@ -1,7 +1,8 @@
 // Lines that are refused for their form: frames with wrong fields, and lines that are no frames.
-use crate::line::{FRAME_LENGTH, Frame, LONGEST, Line};
+use crate::line::{Frame, LONGEST, Line};
 use crate::pools;
 use crate::random::Random;
+use frames::FRAME_LENGTH;
 
 // An enum with a match, and no table of functions: what is known of a function is lost where it is drawn from a table.
 #[derive(Clone, Copy)]

@@ -1,6 +1,5 @@
 // The engine as it is compared: as it is, or with a fault put in to see that the comparison notices it.
-use crate::line::FRAME_LENGTH;
-use frames::{Answer, Command, decode};
+use frames::{Answer, Command, FRAME_LENGTH, decode};
 use registers::{Register, State};
 use std::fmt;
 

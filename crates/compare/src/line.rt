@@ -5,9 +5,6 @@ use frames::Kind;
 use std::fmt;
 use std::fmt::Write;
 
-// The digits of a frame: two of kind, six of a, four of v.
-pub const FRAME_LENGTH: usize = 12;
-
 // The fields of a frame, as plain numbers: they may be too large for their kind, and the kind may be none that there is.
 #[derive(Clone, Copy)]
 pub struct Frame {

@@ -1,4 +1,4 @@
-// A link holds an engine and what has come of the line that has not ended.
+// A link holds an engine and what has come of the line that has not ended. It has no model, since its engine has none.
 ghost use Rattle.std.specs.Prelude.{◌≤◌, length};
 
 use super::held::Held;

@@ -232,6 +232,7 @@ impl<S: Sockets> Engine<S> {
         ensures { view S.meaning self.new ≡ settled before (view S.meaning self.old) }
     {
         let after = self.power.outputs();
+        // Four calls and no loop, which would have to say how far it has come.
         self.settle_socket(Socket::Ram, before, after);
         self.settle_socket(Socket::Rom, before, after);
         self.settle_socket(Socket::CardA, before, after);

@@ -33,6 +33,7 @@ pub struct Devices<R, O, CA, CB> {
     pub card_b: CB,
 }
 
+// Each function names all four devices: one that picked a device for them would hand out a `dyn`.
 impl<R: Device, O: Device, CA: Device, CB: Device> Sockets for Devices<R, O, CA, CB> {
     ghost meaning = { λ d. record { ram = R.Device.meaning d.ram; rom = O.Device.meaning d.rom; card_a = CA.Device.meaning d.card_a; card_b = CB.Device.meaning d.card_b } };
 

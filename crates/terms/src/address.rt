@@ -1,5 +1,6 @@
 // An address as the processor puts it on its bus: 20 bits, 64 pages of 16,384 bytes.
 // It is never a place in a socket: only the mapper's translation leads from one to the other.
+// The bounds are ghost fields, and no model hides the numbers: the contracts above speak of both.
 ghost use Rattle.std.specs.Prelude.{◌≡◌, ℕ, ◌/◌, ◌%◌, ◌<◌, if◌then◌else◌, Ok, Err, nat_lt};
 ghost use Rattle.terms.specs.Limits.{addresses, cpu_pages, page_size};
 ghost use Rattle.terms.specs.Results.{ok_map};

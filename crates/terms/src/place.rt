@@ -1,4 +1,6 @@
 // A place: one byte's position within the device in a socket, 26 bits.
+// A struct of its own beside the CPU address, though the two differ in little more than their limit: neither is taken for
+// the other.
 ghost use Rattle.std.specs.Prelude.{◌≡◌, ◌<◌, if◌then◌else◌, Ok, Err, nat_lt};
 ghost use Rattle.terms.specs.Limits.{places};
 ghost use Rattle.terms.specs.Results.{ok_map};

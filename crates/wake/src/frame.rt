@@ -1,4 +1,4 @@
-// What is handed in: a frame's kind and its fields.
+// What is handed in: a frame's kind and its fields. The library takes lines apart and has none to spell.
 use frames::Kind;
 use registers::Register;
 use std::fmt;

@@ -5,6 +5,7 @@ use frames::Answer;
 use std::fmt;
 use std::fmt::Write;
 
+// An answer without the end of its line.
 const DIGITS: usize = 12;
 
 #[derive(Clone, Copy, PartialEq)]

@@ -11,6 +11,7 @@ pub fn shrink<F: Fault>(heap: Global, trial: &Trial<F>) -> Result<Vec<Line>, All
     let count = trial.lines.len();
     let mut kept = Vec::new(heap);
     kept.extend_from_slice(trial.lines)?;
+    // Counted: each run is half the one before, so there are fewer than a count has bits.
     for halvings in 1..usize::BITS {
         let run = count >> halvings;
         if run <= 1 {

@@ -8,7 +8,7 @@ ghost use Rattle.terms.specs.Limits.{places};
 
 use terms::{Fault, PLACES, Place};
 
-// How many of the bytes are places.
+// How many of the bytes are places. The bound is told again, for the devices over bytes owe it of their size.
 #[tactic(auto, using(std::proofs::lemmas::List::take_min))]
 pub fn size(bytes: &[u8]) -> u32
     ensures all { result ≡ fitting (length bytes.now) }

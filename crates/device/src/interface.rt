@@ -8,7 +8,7 @@ use terms::{Fault, Place};
 pub trait Device {
     ghost meaning: { Self → Meaning };
 
-    // How many places it has.
+    // How many places it has. The bound is a clause here, and no law of the trait, which would ask more of a device.
     fn size(&self) -> u32
         ensures all { result ≡ (meaning self.now).size }
         ensures within { result ≤ places };

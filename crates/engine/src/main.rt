@@ -54,6 +54,7 @@ fn run(rt: &HostRuntime) -> Result<(), Fault> {
     let mut link = memory.link();
     let mut block = vec![in rt.alloc(); 0u8; BLOCK]?;
     let mut out = vec![in rt.alloc(); 0u8; ROOM]?;
+    // Counted, so that the loop has an end; no input is so long.
     for _ in 0..u64::MAX {
         let n = match rt.stdin().read(block.as_mut_slice()) {
             Ok(n) => n,

@@ -16,6 +16,7 @@ pub enum SegmentSize {
 }
 
 impl SegmentSize {
+    // A method and no `From`: its name says what the number is.
     fn places(self) -> u32
         ensures { result ≡ segment_places self }
     {

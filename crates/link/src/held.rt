@@ -1,10 +1,11 @@
 // What has come of the line that has not ended.
 ghost use Rattle.std.specs.Prelude.{◌≡◌, ◌++◌, [], ◌∷◌, ◌==◌, length, take};
 
+use frames::FRAME_LENGTH;
 use std::marker::Model;
 
 // One byte more than a frame has.
-const ROOM: usize = 13;
+const ROOM: usize = FRAME_LENGTH + 1;
 
 // The first bytes of a line: one of more than twelve is no frame, whatever follows, so thirteen tell all.
 // An array with a length, and no `Vec`, since a link needs no heap, and no crate of the kit stands below the programs; its

@@ -66,6 +66,7 @@ pub fn join(parts: PageParts) -> Result<u16, Refusal>
     if parts.socket >= SOCKETS || u32::from(parts.page) >= PLACES / PAGE_SIZE {
         return Err(Refusal::IndexTooLarge);
     }
+    // By an `if`, which shows each bit, and no shift of a `bool`.
     let mapped = if parts.mapped { 0x8000 } else { 0 };
     let readonly = if parts.readonly { 0x4000 } else { 0 };
     Ok(mapped + readonly + u16::from(parts.socket) * 0x1000 + parts.page)

@@ -14,7 +14,8 @@ pub struct Pair<E, O> {
 }
 
 // Which of the two devices, the pair's chips, has a place, and which place it is there.
-// Each caller names both: a helper over closures would be one for `&self` and one for `&mut self`, for three callers.
+// Each caller names both: a helper over closures would be one for `&self` and one for `&mut self`, for three callers, and
+// one that picked a device for them would hand out a `dyn`.
 enum Chip {
     Even(Place),
     Odd(Place),
@@ -35,7 +36,7 @@ impl<E: Device, O: Device> Pair<E, O> {
         (self.even, self.odd)
     }
 
-    // The pair ends where its shorter chip ends.
+    // The pair ends where its shorter chip ends. The bound is told again, for a pair owes it of its size.
     fn places(&self) -> u32
         ensures all { result ≡ (paired (E.Device.meaning self.now.even) (O.Device.meaning self.now.odd)).size }
         ensures within { result ≤ places }

@@ -5,7 +5,8 @@ ghost use Rattle.terms.specs.declared.refusal.Refusal.TheVariants.{IndexTooLarge
 
 use terms::Refusal;
 
-// One of the eight sources of activity; ACTMASK has a bit for each.
+// One of the eight sources of activity; ACTMASK has a bit for each. A struct of its own, so that no other number is taken
+// for it.
 #[derive(Clone, Copy, Debug, PartialEq, Eq)]
 pub struct Source {
     number: u8,

@@ -64,7 +64,7 @@ impl Register {
         self as usize
     }
 
-    // CAUSE, the violation's address and the present outputs are not written by a frame.
+    // CAUSE, the violation's address and the present outputs are not written by a frame. A match, as short as `matches!`.
     pub fn is_write_protected(self) -> bool
         ensures { result ≡ write_protected (index self) }
     {

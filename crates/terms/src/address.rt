@@ -14,7 +14,7 @@ pub struct CpuAddress {
     ghost fits: { bits < addresses },
 }
 
-// One of the 64 pages of the processor's addresses.
+// One of the 64 pages of the processor's addresses. A struct of its own, so that no other number is taken for it.
 #[derive(Clone, Copy, Debug, PartialEq, Eq)]
 pub struct CpuPage {
     number: u8,

@@ -97,7 +97,7 @@ impl State {
 }
 
 impl Cause {
-    // The cause's bit in CAUSE and in MASK.
+    // The cause's bit in CAUSE and in MASK. A method and no `From`: its name says what the byte is.
     pub fn bit(self) -> u8 {
         self as u8
     }

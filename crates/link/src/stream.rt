@@ -70,6 +70,7 @@ impl<S: Sockets> Link<S> {
     {
         let read = chunk.len().min(out.len() / ANSWER_LENGTH);
         let mut rest = &chunk[0..read];
+        // Counted, since the caller is told it.
         let mut written = 0;
         while !rest.is_empty() {
             let next = self.advance(rest);

@@ -68,7 +68,7 @@ impl TryFrom<u32> for Kind {
 }
 
 impl Kind {
-    // Commands of the processor, which a sleeping machine has none of; the other kinds are events.
+    // Commands of the processor, which gives none in Suspend and Off; the other kinds are events.
     pub fn is_command(self) -> bool {
         matches!(
             self,

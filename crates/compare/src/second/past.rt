@@ -21,7 +21,7 @@ pub enum Deed {
     Activity { source: u32 },
     Level { input: Input, high: bool },
     Alarm,
-    // A refusal, or a read that only answers.
+    // A refusal that leaves nothing, or a read that only answers.
     Nothing,
 }
 

@@ -1,16 +1,14 @@
 // The boards that lists are run on: the program's, and others that stack the layers in other ways. A shape is a type, of
-// which the engine is built, and which is described to the second implementation.
-use crate::parts::{Bench, FIRST_SEGMENT, Part, Protection, Stock};
+// which the engine is built; layers.rt tells the second implementation of it.
+use crate::parts::{Bench, FIRST_SEGMENT, Part, Protection};
 use crate::pools;
 use crate::random::Random;
-use crate::second::stack::Board;
 use board::{BoardDevices, CHIP, assemble};
 use guard::Guard;
 use machine::{Devices, Engine};
 use pair::Pair;
 use ram::{BackedRam, Ram};
 use rom::{Empty, Rom};
-use std::alloc::{AllocError, Global};
 use std::{array, fmt};
 
 // The most chips, and the most guards, that a board has.
@@ -58,8 +56,6 @@ pub struct Setup {
 // An engine with parts in its sockets.
 pub trait Built<'a> {
     fn build(bench: Bench<'a>) -> Self;
-
-    fn describe(heap: Global, stock: Stock) -> Result<Board, AllocError>;
 }
 
 impl<'a, R: Part<'a>, O: Part<'a>, CA: Part<'a>, CB: Part<'a>> Built<'a>
@@ -74,16 +70,6 @@ impl<'a, R: Part<'a>, O: Part<'a>, CA: Part<'a>, CB: Part<'a>> Built<'a>
             rom,
             card_a,
             card_b,
-        })
-    }
-
-    fn describe(heap: Global, mut stock: Stock) -> Result<Board, AllocError> {
-        Ok(Board {
-            ram: R::describe(heap, &mut stock)?,
-            rom: O::describe(heap, &mut stock)?,
-            card_a: CA::describe(heap, &mut stock)?,
-            card_b: CB::describe(heap, &mut stock)?,
-            bytes: stock.bytes(),
         })
     }
 }
@@ -104,15 +90,6 @@ impl Setup {
             shape,
             sizes: array::from_fn(|_| random.pick(&pools::CHIP_SIZES)),
             guards: array::from_fn(|_| Protection::drawn(&mut random)),
-        }
-    }
-
-    pub fn describe(&self, heap: Global) -> Result<Board, AllocError> {
-        let stock = Stock::of(self);
-        match self.shape {
-            Shape::Program => Program::describe(heap, stock),
-            Shape::GuardOverPair => GuardOverPair::describe(heap, stock),
-            Shape::DeepStack => DeepStack::describe(heap, stock),
         }
     }
 }

@@ -7,6 +7,7 @@ mod composer;
 mod contest;
 mod damage;
 mod fault;
+mod layers;
 mod line;
 mod parts;
 mod pools;

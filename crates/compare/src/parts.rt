@@ -1,14 +1,12 @@
-// The parts of a board: each is a type for the engine, and a layer for the second implementation.
+// The parts of a board: devices that take what they are made of from the same stock, one after the other.
 use crate::boards::Setup;
 use crate::pools;
 use crate::random::Random;
-use crate::second::stack::{Chip, ChipKind, Layer};
 use device::Device;
 use guard::{Guard, SegmentSize};
 use pair::Pair;
 use ram::Chip as RamChip;
 use rom::{Empty, Rom};
-use std::alloc::{AllocError, Global};
 use std::{array, slice};
 
 // What a guard write-protects: the segments of these numbers.
@@ -54,19 +52,13 @@ impl<'a> Stock<'a> {
         }
     }
 
-    fn take_size(&mut self) -> usize {
+    pub fn take_size(&mut self) -> usize {
         let size = self.sizes.next().copied().unwrap_or(0);
         self.start = self.start.saturating_add(size);
         size
     }
 
-    fn take_chip(&mut self, kind: ChipKind) -> Chip {
-        let start = self.start;
-        let size = self.take_size();
-        Chip { kind, start, size }
-    }
-
-    fn take_protection(&mut self) -> Protection {
+    pub fn take_protection(&mut self) -> Protection {
         self.protections.next().copied().unwrap_or(FIRST_SEGMENT)
     }
 
@@ -94,22 +86,11 @@ impl<'a> Bench<'a> {
 // A device that boards are made of.
 pub trait Part<'a>: Device + Drop {
     fn build(bench: &mut Bench<'a>) -> Self;
-
-    fn describe(heap: Global, stock: &mut Stock) -> Result<Layer, AllocError>;
 }
 
 impl<'a, const BACKED: bool> Part<'a> for RamChip<'a, BACKED> {
     fn build(bench: &mut Bench<'a>) -> RamChip<'a, BACKED> {
         RamChip::new(bench.take_chip())
-    }
-
-    fn describe(_heap: Global, stock: &mut Stock) -> Result<Layer, AllocError> {
-        let kind = if BACKED {
-            ChipKind::BackedRam
-        } else {
-            ChipKind::Ram
-        };
-        Ok(Layer::Chip(stock.take_chip(kind)))
     }
 }
 
@@ -117,19 +98,11 @@ impl<'a> Part<'a> for Rom<'a> {
     fn build(bench: &mut Bench<'a>) -> Rom<'a> {
         Rom::new(bench.take_chip())
     }
-
-    fn describe(_heap: Global, stock: &mut Stock) -> Result<Layer, AllocError> {
-        Ok(Layer::Chip(stock.take_chip(ChipKind::Rom)))
-    }
 }
 
 impl<'a> Part<'a> for Empty {
     fn build(_bench: &mut Bench<'a>) -> Empty {
         Empty
-    }
-
-    fn describe(_heap: Global, _stock: &mut Stock) -> Result<Layer, AllocError> {
-        Ok(Layer::Empty)
     }
 }
 
@@ -144,16 +117,6 @@ impl<'a, D: Part<'a>> Part<'a> for Guard<D> {
         }
         guard
     }
-
-    fn describe(heap: Global, stock: &mut Stock) -> Result<Layer, AllocError> {
-        let below = Box::new(heap, D::describe(heap, stock)?)?;
-        let Protection { segments, flags } = stock.take_protection();
-        Ok(Layer::Guard {
-            below,
-            segment: segments as usize,
-            flags,
-        })
-    }
 }
 
 impl<'a, E: Part<'a>, O: Part<'a>> Part<'a> for Pair<E, O> {
@@ -161,11 +124,5 @@ impl<'a, E: Part<'a>, O: Part<'a>> Part<'a> for Pair<E, O> {
         let even = E::build(bench);
         let odd = O::build(bench);
         Pair::new(even, odd)
-    }
-
-    fn describe(heap: Global, stock: &mut Stock) -> Result<Layer, AllocError> {
-        let even = Box::new(heap, E::describe(heap, stock)?)?;
-        let odd = Box::new(heap, O::describe(heap, stock)?)?;
-        Ok(Layer::Pair { even, odd })
     }
 }

@@ -120,15 +120,14 @@ impl Tally {
     }
 
     fn add_line(&mut self, verdict: &Verdict) {
-        let entry = verdict.entry;
         self.lines = self.lines.saturating_add(1);
         self.kinds.count(|kind| verdict.kind == Some(kind));
         self.numbers
             .count(|refusal| verdict.outcome.err() == refusal);
-        self.states.count(|state| entry.after.state == state);
-        self.causes.count(|cause| entry.arose == Some(cause));
+        self.states.count(|state| verdict.state == state);
+        self.causes.count(|cause| verdict.arose == Some(cause));
         self.wakers.count(|waker| verdict.woke == Some(waker));
-        self.losses.count(|line| entry.cuts_power(line));
+        self.losses.count(|line| verdict.cuts_power(line));
     }
 
     // Whether each thing came up at least once.

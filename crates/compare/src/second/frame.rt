@@ -1,156 +1,164 @@
-// What a line of input says, before anything is known of the engine.
-use crate::second::refusal::Refusal;
-use crate::second::words::Register;
+// What a line asks for, read from its twelve digits.
 
-#[derive(Clone, Copy, PartialEq, Eq)]
-pub enum Kind {
-    Reset,
-    RegisterWrite,
-    RegisterRead,
-    PageWrite,
-    PageRead,
-    CpuWrite,
-    CpuRead,
-    Tick,
-    Activity,
-    Ext,
-    Ring,
-    Alarm,
-    Battery,
-    Ac,
-}
+use super::page::{Address, PageWord};
+use super::words::{Input, Kind, Refusal, Register, State, Stored};
 
+// A line of twelve digits and a known kind, whose other fields may still be wrong.
 #[derive(Clone, Copy)]
 pub struct Frame {
     pub kind: Kind,
-    pub a: u32,
-    pub v: u32,
+    address: u32,
+    value: u16,
 }
 
-const LARGEST_INDEX: u32 = 0x0f;
-
-const LARGEST_PAGE: u32 = 0x3f;
-
-const LARGEST_ADDRESS: u32 = 0xf_ffff;
-
-const LARGEST_SOURCE: u32 = 7;
-
-const LARGEST_STATE: u32 = 4;
-
-const LARGEST_BYTE: u32 = 0xff;
-
-const LARGEST_WORD: u32 = 0xffff;
-
-const LARGEST_LEVEL: u32 = 1;
-
-impl TryFrom<u32> for Kind {
-    type Error = Refusal;
-
-    fn try_from(number: u32) -> Result<Kind, Refusal> {
-        match number {
-            0x00 => Ok(Kind::Reset),
-            0x01 => Ok(Kind::RegisterWrite),
-            0x02 => Ok(Kind::RegisterRead),
-            0x03 => Ok(Kind::PageWrite),
-            0x04 => Ok(Kind::PageRead),
-            0x05 => Ok(Kind::CpuWrite),
-            0x06 => Ok(Kind::CpuRead),
-            0x10 => Ok(Kind::Tick),
-            0x11 => Ok(Kind::Activity),
-            0x12 => Ok(Kind::Ext),
-            0x13 => Ok(Kind::Ring),
-            0x14 => Ok(Kind::Alarm),
-            0x15 => Ok(Kind::Battery),
-            0x16 => Ok(Kind::Ac),
-            _ => Err(Refusal::UnknownKind),
-        }
-    }
-}
-
-impl Kind {
-    // Commands of the processor, which gives none in Suspend and Off; the other kinds are events.
-    pub fn is_command(self) -> bool {
-        matches!(
-            self,
-            Kind::RegisterWrite
-                | Kind::RegisterRead
-                | Kind::PageWrite
-                | Kind::PageRead
-                | Kind::CpuWrite
-                | Kind::CpuRead
-        )
-    }
+// What a well-formed line asks for.
+#[derive(Clone, Copy)]
+pub enum Action {
+    Reset,
+    WriteState(State),
+    WriteRegister { register: Stored, value: u8 },
+    WriteFixedRegister,
+    ReadRegister(Register),
+    WritePage { page: u32, word: PageWord },
+    ReadPage(u32),
+    WriteByte { address: Address, value: u8 },
+    ReadByte(Address),
+    Tick,
+    Activity { source_bit: u8 },
+    Level { input: Input, is_high: bool },
+    Alarm,
 }
 
 impl Frame {
-    // The frame that a line spells.
     pub fn read(line: &[u8]) -> Result<Frame, Refusal> {
-        let (number, a, v) = fields_of(line).ok_or(Refusal::NoFrame)?;
-        let kind = Kind::try_from(number)?;
-        Ok(Frame { kind, a, v })
-    }
-
-    // The largest a; None where the kind does not use it.
-    fn largest_a(self) -> Option<u32> {
-        match self.kind {
-            Kind::RegisterWrite | Kind::RegisterRead => Some(LARGEST_INDEX),
-            Kind::PageWrite | Kind::PageRead => Some(LARGEST_PAGE),
-            Kind::CpuWrite | Kind::CpuRead => Some(LARGEST_ADDRESS),
-            Kind::Activity => Some(LARGEST_SOURCE),
-            _ => None,
+        if line.len() != 12 {
+            return Err(Refusal::NoFrame);
         }
+        let kind = number(&line[..2])?;
+        let address = number(&line[2..8])?;
+        let value = number(&line[8..])?;
+        Ok(Frame {
+            kind: Kind::try_from(kind)?,
+            address,
+            value: u16::try_from(value).map_err(|_| Refusal::LargeValue)?,
+        })
     }
 
-    // The largest v; None where the kind does not use it.
-    fn largest_v(self) -> Option<u32> {
-        match self.kind {
-            Kind::RegisterWrite if self.a == Register::State as u32 => Some(LARGEST_STATE),
-            Kind::RegisterWrite | Kind::CpuWrite => Some(LARGEST_BYTE),
-            Kind::PageWrite => Some(LARGEST_WORD),
-            Kind::Ext | Kind::Ring | Kind::Battery | Kind::Ac => Some(LARGEST_LEVEL),
-            _ => None,
-        }
-    }
-
-    // Whether each field holds what the kind wants of it.
-    pub fn check(self) -> Result<(), Refusal> {
-        let largest_a = self.largest_a();
-        let largest_v = self.largest_v();
-        if (largest_a.is_none() && self.a != 0) || (largest_v.is_none() && self.v != 0) {
+    // What the line asks for. The fields are tried in the order of rank: unused ones, value, address.
+    pub fn action(self) -> Result<Action, Refusal> {
+        if self.has_unused_digits() {
             return Err(Refusal::UnusedField);
         }
-        if largest_v.is_some_and(|largest| self.v > largest) {
-            return Err(Refusal::LargeValue);
+        Ok(match self.kind {
+            Kind::Reset => Action::Reset,
+            Kind::RegisterWrite => self.register_write()?,
+            Kind::RegisterRead => Action::ReadRegister(Register::try_from(self.address)?),
+            Kind::PageWrite => Action::WritePage {
+                page: self.page()?,
+                word: PageWord(self.value),
+            },
+            Kind::PageRead => Action::ReadPage(self.page()?),
+            Kind::CpuWrite => {
+                let value = self.byte()?;
+                let address = Address::try_from(self.address)?;
+                Action::WriteByte { address, value }
+            }
+            Kind::CpuRead => Action::ReadByte(Address::try_from(self.address)?),
+            Kind::Tick => Action::Tick,
+            Kind::Activity => Action::Activity {
+                source_bit: self.source_bit()?,
+            },
+            Kind::Ext => self.level(Input::Ext)?,
+            Kind::Ring => self.level(Input::Ring)?,
+            Kind::Alarm => Action::Alarm,
+            Kind::Battery => self.level(Input::Battery)?,
+            Kind::Ac => self.level(Input::Ac)?,
+        })
+    }
+
+    fn has_unused_digits(self) -> bool {
+        let (uses_address, uses_value) = match self.kind {
+            Kind::RegisterWrite | Kind::PageWrite | Kind::CpuWrite => (true, true),
+            Kind::RegisterRead | Kind::PageRead | Kind::CpuRead | Kind::Activity => (true, false),
+            Kind::Ext | Kind::Ring | Kind::Battery | Kind::Ac => (false, true),
+            Kind::Reset | Kind::Tick | Kind::Alarm => (false, false),
+        };
+        (self.address != 0 && !uses_address) || (self.value != 0 && !uses_value)
+    }
+
+    fn register_write(self) -> Result<Action, Refusal> {
+        if self.address == 0 {
+            return Ok(Action::WriteState(State::try_from(self.value)?));
         }
-        if largest_a.is_some_and(|largest| self.a > largest) {
+        let value = self.byte()?;
+        Ok(match Register::try_from(self.address)? {
+            Register::Stored(register) => Action::WriteRegister { register, value },
+            _ => Action::WriteFixedRegister,
+        })
+    }
+
+    fn byte(self) -> Result<u8, Refusal> {
+        u8::try_from(self.value).map_err(|_| Refusal::LargeValue)
+    }
+
+    fn page(self) -> Result<u32, Refusal> {
+        if self.address > 0x3F {
             return Err(Refusal::LargeAddress);
         }
-        Ok(())
+        Ok(self.address)
+    }
+
+    fn source_bit(self) -> Result<u8, Refusal> {
+        if self.address > 7 {
+            return Err(Refusal::LargeAddress);
+        }
+        Ok(1 << self.address)
+    }
+
+    fn level(self, input: Input) -> Result<Action, Refusal> {
+        match self.value {
+            0 => Ok(Action::Level {
+                input,
+                is_high: false,
+            }),
+            1 => Ok(Action::Level {
+                input,
+                is_high: true,
+            }),
+            _ => Err(Refusal::LargeValue),
+        }
     }
 }
 
-// The kind's number, a and v; None where the line is no frame.
-fn fields_of(line: &[u8]) -> Option<(u32, u32, u32)> {
-    let (number, rest) = line.split_first_chunk::<2>()?;
-    let (a, rest) = rest.split_first_chunk::<6>()?;
-    let (v, []) = rest.split_first_chunk::<4>()? else {
-        return None;
-    };
-    Some((number_of(number)?, number_of(a)?, number_of(v)?))
+impl Action {
+    // Whether the line is refused in Suspend and Off.
+    pub fn is_refused_asleep(self) -> bool {
+        match self {
+            Action::WriteState(_)
+            | Action::WriteRegister { .. }
+            | Action::WriteFixedRegister
+            | Action::ReadRegister(_)
+            | Action::WritePage { .. }
+            | Action::ReadPage(_)
+            | Action::WriteByte { .. }
+            | Action::ReadByte(_) => true,
+            Action::Reset
+            | Action::Tick
+            | Action::Activity { .. }
+            | Action::Level { .. }
+            | Action::Alarm => false,
+        }
+    }
 }
 
-// The number that at most eight digits spell, the highest first; None where one is no digit.
-fn number_of(digits: &[u8]) -> Option<u32> {
-    digits.iter().try_fold(
-        0u32,
-        |number, digit| Some((number << 4) | worth_of(*digit)?),
-    )
+fn number(digits: &[u8]) -> Result<u32, Refusal> {
+    digits.iter().try_fold(0, |number, digit| Ok((number << 4) | digit_value(*digit)?))
 }
 
-fn worth_of(digit: u8) -> Option<u32> {
+fn digit_value(digit: u8) -> Result<u32, Refusal> {
     match digit {
-        b'0'..=b'9' => Some(u32::from(digit - b'0')),
-        b'A'..=b'F' => Some(u32::from(digit - b'A') + 10),
-        _ => None,
+        b'0'..=b'9' => Ok(u32::from(digit - b'0')),
+        b'A'..=b'F' => Ok(u32::from(digit - b'A') + 10),
+        _ => Err(Refusal::NoFrame),
     }
 }

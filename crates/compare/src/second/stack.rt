@@ -1,9 +1,7 @@
-// What stands in the sockets: chips over one flat list of bytes, and layers over them.
+// The memory board: chips, and the layers over them.
 
-const LARGEST_SIZE: usize = 67_108_864;
-
-// What a volatile byte becomes when its power is lost.
-pub const LOST: u8 = 0xff;
+// The most places that a device has.
+const MOST_PLACES: usize = 0x400_0000;
 
 #[derive(Clone, Copy, PartialEq, Eq)]
 pub enum ChipKind {
@@ -12,7 +10,7 @@ pub enum ChipKind {
     Rom,
 }
 
-// A chip, and the part of the flat list that it has.
+// A chip, whose bytes are some of the flat list of all bytes.
 #[derive(Clone, Copy)]
 pub struct Chip {
     pub kind: ChipKind,
@@ -20,41 +18,25 @@ pub struct Chip {
     pub size: usize,
 }
 
+// A device: a chip, nothing, or a layer over other devices.
 #[derive(Drop)]
 pub enum Layer {
     Chip(Chip),
     Empty,
-    // The flagged segments by their numbers; a segment beyond those of a byte has no flag.
+    // Write-protects the segments whose numbers are in `flags`.
     Guard {
         below: Box<Layer>,
         segment: usize,
         flags: [u8; 4],
     },
+    // Has the places of two devices by turns.
     Pair {
         even: Box<Layer>,
         odd: Box<Layer>,
     },
 }
 
-#[derive(Clone, Copy, PartialEq, Eq)]
-pub enum Socket {
-    Ram,
-    Rom,
-    CardA,
-    CardB,
-}
-
-pub const SOCKETS: [Socket; 4] = [Socket::Ram, Socket::Rom, Socket::CardA, Socket::CardB];
-
-// The power lines that supply sockets, by their bits in the outputs.
-#[derive(Clone, Copy, PartialEq, Eq)]
-pub enum PowerLine {
-    Ram = 0x02,
-    Rom = 0x04,
-    Cards = 0x08,
-}
-
-// What stands in the four sockets, over a flat list of so many bytes.
+// The four devices, and the length of the list that has the bytes of all their chips.
 #[derive(Drop)]
 pub struct Board {
     pub ram: Layer,
@@ -64,12 +46,47 @@ pub struct Board {
     pub bytes: usize,
 }
 
-// Where a place of a socket lies in the flat list.
+// What a place of a device is at bottom: one byte of the flat list.
 #[derive(Clone, Copy)]
-pub struct Spot {
-    pub index: usize,
-    pub writable: bool,
-    pub volatile: bool,
+pub struct Place {
+    pub byte: usize,
+    pub is_writable: bool,
+    pub is_volatile: bool,
+}
+
+#[derive(Clone, Copy)]
+pub enum Socket {
+    Ram,
+    Rom,
+    CardA,
+    CardB,
+}
+
+// A line of the power outputs that supplies sockets.
+#[derive(Clone, Copy, PartialEq, Eq)]
+pub enum PowerLine {
+    Ram,
+    Rom,
+    Cards,
+}
+
+// The power outputs as they are at one moment.
+#[derive(Clone, Copy)]
+pub struct Outputs(pub u8);
+
+impl Outputs {
+    pub const AFTER_RESET: Outputs = Outputs(0x0F);
+
+    pub const NONE: Outputs = Outputs(0x00);
+
+    pub fn supplies(self, line: PowerLine) -> bool {
+        let bit = match line {
+            PowerLine::Ram => 0x02,
+            PowerLine::Rom => 0x04,
+            PowerLine::Cards => 0x08,
+        };
+        self.0 & bit != 0
+    }
 }
 
 impl Socket {
@@ -83,7 +100,7 @@ impl Socket {
 }
 
 impl Board {
-    pub fn layer(&self, socket: Socket) -> &Layer {
+    pub fn device(&self, socket: Socket) -> &Layer {
         match socket {
             Socket::Ram => &self.ram,
             Socket::Rom => &self.rom,
@@ -91,87 +108,82 @@ impl Board {
             Socket::CardB => &self.card_b,
         }
     }
+
+    // What is left in the flat list when the power line has fallen.
+    pub fn lose_power(&self, line: PowerLine, bytes: &mut [u8]) {
+        match line {
+            PowerLine::Ram => self.ram.lose_power(bytes),
+            PowerLine::Rom => self.rom.lose_power(bytes),
+            PowerLine::Cards => {
+                self.card_a.lose_power(bytes);
+                self.card_b.lose_power(bytes);
+            }
+        }
+    }
 }
 
 impl Chip {
-    fn size(self) -> usize {
-        self.size.min(LARGEST_SIZE)
-    }
-
-    fn spot(self, place: usize) -> Option<Spot> {
-        Some(Spot {
-            index: self.start.checked_add(place)?,
-            writable: self.kind != ChipKind::Rom,
-            volatile: self.kind == ChipKind::Ram,
+    // The place of that number, or none where the chip has not so many.
+    fn place(&self, number: usize) -> Option<Place> {
+        if number >= self.size.min(MOST_PLACES) {
+            return None;
+        }
+        Some(Place {
+            byte: self.start.checked_add(number)?,
+            is_writable: self.kind != ChipKind::Rom,
+            is_volatile: self.kind == ChipKind::Ram,
         })
     }
 
-    fn bytes_of<'a>(self, bytes: &'a mut [u8]) -> Option<&'a mut [u8]> {
-        bytes.get_mut(self.start..)?.get_mut(..self.size())
+    fn lose_power(&self, bytes: &mut [u8]) {
+        if self.kind != ChipKind::Ram {
+            return;
+        }
+        let end = self.start.saturating_add(self.size.min(MOST_PLACES));
+        if let Some(own) = bytes.get_mut(self.start..end) {
+            own.fill(0xFF);
+        }
     }
 }
 
 impl Layer {
-    fn size(&self) -> usize {
+    // The place of that number, or none where the device has not so many.
+    pub fn place(&self, number: usize) -> Option<Place> {
         match self {
-            Layer::Chip(chip) => chip.size(),
-            Layer::Empty => 0,
-            Layer::Guard { below, .. } => below.size(),
-            Layer::Pair { even, odd } => {
-                let shorter = even.size().min(odd.size());
-                shorter.saturating_mul(2).min(LARGEST_SIZE)
-            }
-        }
-    }
-
-    // Where a place lies, by the way down to a chip. None where it is at or beyond the size of a
-    // layer on the way.
-    pub fn spot(&self, place: usize) -> Option<Spot> {
-        if place >= self.size() {
-            return None;
-        }
-        match self {
-            Layer::Chip(chip) => chip.spot(place),
+            Layer::Chip(chip) => chip.place(number),
             Layer::Empty => None,
             Layer::Guard {
                 below,
                 segment,
                 flags,
             } => {
-                let spot = below.spot(place)?;
-                Some(Spot {
-                    writable: spot.writable && !is_flagged(*segment, flags, place),
-                    ..spot
+                let place = below.place(number)?;
+                let is_flagged = number
+                    .checked_div(*segment)
+                    .is_some_and(|own| flags.iter().any(|flag| usize::from(*flag) == own));
+                Some(Place {
+                    is_writable: place.is_writable && !is_flagged,
+                    ..place
                 })
             }
             Layer::Pair { even, odd } => {
-                let half = if place % 2 == 0 { even } else { odd };
-                half.spot(place / 2)
+                // The pair ends where the shorter half does, so both halves have to have the place.
+                let of_even = even.place(number / 2)?;
+                let of_odd = odd.place(number / 2)?;
+                Some(if number % 2 == 0 { of_even } else { of_odd })
             }
         }
     }
 
-    // A power loss, done to the flat list.
-    pub fn lose_power(&self, bytes: &mut [u8]) {
+    fn lose_power(&self, bytes: &mut [u8]) {
         match self {
-            Layer::Chip(chip) if chip.kind == ChipKind::Ram => {
-                if let Some(lost) = chip.bytes_of(bytes) {
-                    lost.fill(LOST);
-                }
-            }
-            Layer::Chip(_) | Layer::Empty => {}
+            Layer::Chip(chip) => chip.lose_power(bytes),
+            Layer::Empty => {}
             Layer::Guard { below, .. } => below.lose_power(bytes),
             Layer::Pair { even, odd } => {
                 even.lose_power(bytes);
                 odd.lose_power(bytes);
             }
         }
-    }
-}
-
-fn is_flagged(segment: usize, flags: &[u8; 4], place: usize) -> bool {
-    match place.checked_div(segment) {
-        Some(number) => flags.iter().any(|flag| usize::from(*flag) == number),
-        None => false,
     }
 }

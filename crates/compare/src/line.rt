@@ -3,7 +3,6 @@ ghost use Rattle.std.specs.Prelude.{◌≤◌};
 
 use frames::Kind;
 use std::fmt;
-use std::fmt::Write;
 
 // The fields of a frame, as plain numbers: they may be too large for their kind, and the kind may be none that there is.
 #[derive(Clone, Copy)]
@@ -34,13 +33,25 @@ pub struct Line {
     ghost fits: { length ≤ 40 },
 }
 
+// Without a formatter, since each of a million lines is spelled.
 impl From<Frame> for Line {
     fn from(frame: Frame) -> Line {
-        let mut line = Line::empty();
         let Frame { kind, a, v } = frame;
-        // There is room, so nothing is left out.
-        let _ = write!(line, "{kind:02X}{a:06X}{v:04X}");
+        let [_, a2, a1, a0] = a.to_be_bytes();
+        let [v1, v0] = v.to_be_bytes();
+        let mut line = Line::empty();
+        for byte in [kind, a2, a1, a0, v1, v0] {
+            line.push(low_digit(byte >> 4));
+            line.push(low_digit(byte));
+        }
         line
+    }
+}
+
+fn low_digit(byte: u8) -> u8 {
+    match byte % 16 {
+        number @ 0..=9 => b'0' + number,
+        number => b'A' + (number - 10),
     }
 }
 
@@ -72,15 +83,6 @@ impl Line {
 
     pub fn cut(&mut self, length: usize) {
         self.length = self.length.min(length);
-    }
-}
-
-impl Write for Line {
-    fn write_str(&mut self, text: &str) -> fmt::Result {
-        for byte in text.as_bytes() {
-            self.push(*byte);
-        }
-        Ok(())
     }
 }
 
